@@ -10,7 +10,7 @@ use Rattle.vmodules.specs.Ports.{ports_of, own_items}
 use Rattle.velab_declaration.specs.Drives.{Place, start_of, with_start_values}
 use Rattle.velab_declaration.specs.Variables.{port_scope}
 use Rattle.velab_expr.specs.declared.fault.ElabFault.{ElabFault}
-use Rattle.vhierarchy.specs.Instances.{Instantiation, Part, Context, scope_of, child_context, each, elaborate_instance, elaborate_top, nothing, top_context, driven_in, Elaborates}
+use Rattle.vhierarchy.specs.Instances.{Instantiation, PartialDesign, Context, scope_of, child_context, each, elaborate_instance, elaborate_top, nothing, top_context, driven_in, Elaborates}
 use Rattle.elaboration_law.specs.Counts.{Variables, Instances, Letters}
 use Rattle.elaboration_law.proofs.StepLemmas.{same_value, then_ok}
 use Rattle.elaboration_law.proofs.HierarchyLemmas.{Own, opened_ok, all_elaborated}
@@ -36,7 +36,7 @@ module _ (driven : List Place) where
       (started_small (n + 1) more (All-tail IsSmallVariable v more all))
 
 -- what stands in a design so far
-record IsSmallPart (part : Part) : Type 0 where
+record IsSmallPart (part : PartialDesign) : Type 0 where
   narrow : All IsSmallVariable part.variables
   shallow : All IsShallow part.scopes
 
@@ -46,7 +46,7 @@ record IsPlaced (levels : ℕ) (context : Context) : Type 0 where
   path : length context.name.letters ≤ length context.path
 
 module _ (modules : SourceTree) where
-  own_small : (levels : ℕ) (part : Part) (context : Context) (own : Own modules part context) → IsPlaced (suc levels) context → IsSmallPart part → IsSmallPart own.whole
+  own_small : (levels : ℕ) (part : PartialDesign) (context : Context) (own : Own modules part context) → IsPlaced (suc levels) context → IsSmallPart part → IsSmallPart own.whole
   own_small levels part context own placed small =
       let s = own_steps modules part context own in
       let path = context.path in
@@ -60,8 +60,8 @@ module _ (modules : SourceTree) where
         shallow = All-append IsShallow part.scopes (scope ∷ []) small.shallow (All-cons IsShallow scope [] here (All-nil IsShallow));
       })
 
-  each_small : (step : Part → Instantiation → Result Part ElabFault) → ((part : Part) (one : Instantiation) (all : Part) → step part one ≡ Ok all → IsSmallPart part → IsSmallPart all) →
-      (part all : Part) (list : List Instantiation) → each step part list ≡ Ok all → IsSmallPart part → IsSmallPart all
+  each_small : (step : PartialDesign → Instantiation → Result PartialDesign ElabFault) → ((part : PartialDesign) (one : Instantiation) (all : PartialDesign) → step part one ≡ Ok all → IsSmallPart part → IsSmallPart all) →
+      (part all : PartialDesign) (list : List Instantiation) → each step part list ≡ Ok all → IsSmallPart part → IsSmallPart all
   each_small step one_by part all [] is small = subst IsSmallPart (same_value part all is) small
   each_small step one_by part all (one ∷ more) is small =
       let front = then_ok (step part one) (λ next. each step next more) all is in
@@ -73,7 +73,7 @@ module _ (modules : SourceTree) where
       let long = length-append context.path (46 ∷ child.name.letters) in
       record { depth = omega (arith, depth); path = omega (arith, long) }
 
-  all_small : (levels : ℕ) (part : Part) (context : Context) (all : Part) → elaborate_instance levels modules part context ≡ Ok all → IsPlaced levels context → IsSmallPart part → IsSmallPart all
+  all_small : (levels : ℕ) (part : PartialDesign) (context : Context) (all : PartialDesign) → elaborate_instance levels modules part context ≡ Ok all → IsPlaced levels context → IsSmallPart part → IsSmallPart all
   all_small zero part context all is placed small = absurd cc
   all_small (suc levels) part context all is placed small =
       let opened = opened_ok modules levels part context all is in
@@ -82,7 +82,7 @@ module _ (modules : SourceTree) where
       (λ so_far child next next_is. all_small levels so_far (child_context own.scope context child) next next_is (child_placed levels context own.scope child placed))
       own.whole all own.children opened.1 (own_small levels part context own placed small)
 
-  top_small : (m : ModuleTree) (part : Part) → elaborate_top modules m ≡ Ok part → IsSmallPart part
+  top_small : (m : ModuleTree) (part : PartialDesign) → elaborate_top modules m ≡ Ok part → IsSmallPart part
   unfolding elaborate_top
   top_small m part is =
       all_small 16 nothing (top_context m) part is (record { depth = omega arith; path = omega arith })

@@ -24,7 +24,7 @@ use Rattle.velab_declaration.specs.ActionFlaws.{blank_environment, flaw_rule, ta
 use Rattle.velab_declaration.specs.Drives.{drivers_fault}
 use Rattle.velab_declaration.specs.Variables.{declared_names}
 use Rattle.velab_process.specs.Processes.{Processes as Made}
-use Rattle.vhierarchy.specs.Instances.{Instantiation, scope_of, lower_own_variables, lower_own_processes, with_own, child_context, each, elaborate_instance, elaborate_top, nothing, top_context, Part, Context, letters_held, broken_paths, broken_table, elaborated}
+use Rattle.vhierarchy.specs.Instances.{Instantiation, scope_of, lower_own_variables, lower_own_processes, with_own, child_context, each, elaborate_instance, elaborate_top, nothing, top_context, PartialDesign, Context, letters_held, broken_paths, broken_table, elaborated}
 use Rattle.elaboration_law.specs.Hierarchy.{Instance, instances_in, top_instance, instances_from}
 use Rattle.elaboration_law.specs.Laws.{IsMeant}
 use Rattle.elaboration_law.specs.Counts.{Counted, Variables, Processes, Instances, NamedEvents, Letters, Sizes, limit, count_in, HasTooMany}
@@ -40,7 +40,7 @@ use Rattle.elaboration_law.proofs.NameLemmas.{or_some}
 use Rattle.elaboration_law.proofs.DepthLemmas.{one_top}
 
 -- how many a design has so far
-abbrev pub held : Counted → Part → ℕ
+abbrev pub held : Counted → PartialDesign → ℕ
 held Variables part = length part.variables
 held Processes part = length part.begins
 held Instances part = length part.scopes
@@ -73,7 +73,7 @@ names_long path (v ∷ vs) (w ∷ ws) named =
 
 -- ---- what an instance adds
 
-module _ (modules : SourceTree) (part : Part) (context : Context) (own : Own modules part context) where
+module _ (modules : SourceTree) (part : PartialDesign) (context : Context) (own : Own modules part context) where
   added : (what : Counted) → held what own.whole ≡ held what part + count_in what (instance_at context)
   added Variables =
       let s = own_steps modules part context own in
@@ -146,14 +146,14 @@ counts_gather top modules what = record {
 -- ---- in a text that has a design
 
 module _ (modules : SourceTree) (what : Counted) where
-  few_each : (step : Part → Instantiation → Result Part ElabFault) → ((part : Part) (one : Instantiation) (all : Part) → step part one ≡ Ok all → held what all ≤ limit what) →
-      (part all : Part) (list : List Instantiation) → each step part list ≡ Ok all → held what part ≤ limit what → held what all ≤ limit what
+  few_each : (step : PartialDesign → Instantiation → Result PartialDesign ElabFault) → ((part : PartialDesign) (one : Instantiation) (all : PartialDesign) → step part one ≡ Ok all → held what all ≤ limit what) →
+      (part all : PartialDesign) (list : List Instantiation) → each step part list ≡ Ok all → held what part ≤ limit what → held what all ≤ limit what
   few_each step one_by part all [] is few = let same = ap (held what) (same_value part all is) in omega (arith, same, few)
   few_each step one_by part all (one ∷ more) is few =
       let front = then_ok (step part one) (λ next. each step next more) all is in
       few_each step one_by front.0 all more front.2 (one_by part one front.0 front.1)
 
-  few_all : (levels : ℕ) (part : Part) (context : Context) (all : Part) → elaborate_instance levels modules part context ≡ Ok all → held what all ≤ limit what
+  few_all : (levels : ℕ) (part : PartialDesign) (context : Context) (all : PartialDesign) → elaborate_instance levels modules part context ≡ Ok all → held what all ≤ limit what
   few_all zero part context all is = absurd cc
   few_all (suc levels) part context all is =
       let opened = opened_ok modules levels part context all is in
@@ -161,14 +161,14 @@ module _ (modules : SourceTree) (what : Counted) where
       few_each (λ so_far child. elaborate_instance levels modules so_far (child_context own.scope context child)) (λ so_far child. few_all levels so_far (child_context own.scope context child))
       own.whole all own.children opened.1 (few_own modules part context own what)
 
-  pub few_top : (m : ModuleTree) (part : Part) → elaborate_top modules m ≡ Ok part → held what part ≤ limit what
+  pub few_top : (m : ModuleTree) (part : PartialDesign) → elaborate_top modules m ≡ Ok part → held what part ≤ limit what
   unfolding elaborate_top
   few_top m part is = few_all 16 nothing (top_context m) part is
 
 -- ---- in one that is refused
 
 -- with these there are too many
-pub record Exceeds (part : Part) (list : List Instance) : Type 0 where
+pub record Exceeds (part : PartialDesign) (list : List Instance) : Type 0 where
   pub what : Counted
   pub many : limit what < held what part + total what list
 
@@ -186,7 +186,7 @@ module _ (modules : SourceTree) (fault : ElabFault) (rule : fault.rule ≡ TooMa
       let rest = lists_each levels more in
       omega (arith, sum, here, rest)
 
-  module _ (part : Part) (context : Context) where
+  module _ (part : PartialDesign) (context : Context) where
     more_names : ManyNames part context → (list : List Instance) → Exceeds part (instance_at context ∷ list)
     more_names (inl many) list = let sum = sum_by-cons (count_in Variables) (instance_at context) list in record { what = Variables; many = omega (arith, many, sum) }
     more_names (inr (inl many)) list = let sum = sum_by-cons (count_in NamedEvents) (instance_at context) list in record { what = NamedEvents; many = omega (arith, many, sum) }
@@ -228,7 +228,7 @@ module _ (modules : SourceTree) (fault : ElabFault) (rule : fault.rule ≡ TooMa
         own_steps_exceed scope (flat_map (instances_from levels modules) (instances_in modules (instance_at context))) (own_told context scope part fault err)
 
   -- what stands before is held, and what stands behind only adds
-  before_is : (levels : ℕ) (scope : Scope) (context : Context) (part next : Part) (one : Instantiation) (more : List Instance) → elaborate_instance levels modules part (child_context scope context one) ≡ Ok next →
+  before_is : (levels : ℕ) (scope : Scope) (context : Context) (part next : PartialDesign) (one : Instantiation) (more : List Instance) → elaborate_instance levels modules part (child_context scope context one) ≡ Ok next →
       Exceeds next more → Exceeds part (instances_from levels modules (instance_of context.path one) ++ more)
   before_is levels scope context part next one more ok e =
       let what = e.what in
@@ -237,12 +237,12 @@ module _ (modules : SourceTree) (fault : ElabFault) (rule : fault.rule ≡ TooMa
       let sum = sum_by-append (count_in what) (instances_from levels modules (instance_of context.path one)) more in
       record { what = what; many = omega (arith, many, same, sum) }
 
-  behind_adds : (part : Part) (list more : List Instance) → Exceeds part list → Exceeds part (list ++ more)
+  behind_adds : (part : PartialDesign) (list more : List Instance) → Exceeds part list → Exceeds part (list ++ more)
   behind_adds part list more e = let many = e.many in let sum = sum_by-append (count_in e.what) list more in record { what = e.what; many = omega (arith, many, sum) }
 
   each_exceeds : (levels : ℕ) (scope : Scope) (context : Context) →
-      ((part : Part) (context : Context) → elaborate_instance levels modules part context ≡ Err fault → Exceeds part (instances_from levels modules (instance_at context))) →
-      (part : Part) (list : List Instantiation) → each (λ so_far child. elaborate_instance levels modules so_far (child_context scope context child)) part list ≡ Err fault →
+      ((part : PartialDesign) (context : Context) → elaborate_instance levels modules part context ≡ Err fault → Exceeds part (instances_from levels modules (instance_at context))) →
+      (part : PartialDesign) (list : List Instantiation) → each (λ so_far child. elaborate_instance levels modules so_far (child_context scope context child)) part list ≡ Err fault →
       Exceeds part (flat_map (instances_from levels modules) (map (instance_of context.path) list))
   each_exceeds levels scope context one_by part [] is = absurd cc
   each_exceeds levels scope context one_by part (one ∷ more) is =
@@ -250,30 +250,30 @@ module _ (modules : SourceTree) (fault : ElabFault) (rule : fault.rule ≡ TooMa
       (λ next. each_exceeds levels scope context one_by next more)
     where
       by : (elaborate_instance levels modules part (child_context scope context one) ≡ Err fault)
-          ⊎ ((next : Part) × (elaborate_instance levels modules part (child_context scope context one) ≡ Ok next)
+          ⊎ ((next : PartialDesign) × (elaborate_instance levels modules part (child_context scope context one) ≡ Ok next)
           × (each (λ so_far child. elaborate_instance levels modules so_far (child_context scope context child)) next more ≡ Err fault)) →
-          ((next : Part) → each (λ so_far child. elaborate_instance levels modules so_far (child_context scope context child)) next more ≡ Err fault →
+          ((next : PartialDesign) → each (λ so_far child. elaborate_instance levels modules so_far (child_context scope context child)) next more ≡ Err fault →
           Exceeds next (flat_map (instances_from levels modules) (map (instance_of context.path) more))) →
           Exceeds part (instances_from levels modules (instance_of context.path one) ++ flat_map (instances_from levels modules) (map (instance_of context.path) more))
       by (inl err) rest = behind_adds part (instances_from levels modules (instance_of context.path one)) (flat_map (instances_from levels modules) (map (instance_of context.path) more)) (one_by part (child_context scope context one) err)
       by (inr (next, ok, err)) rest = before_is levels scope context part next one (flat_map (instances_from levels modules) (map (instance_of context.path) more)) ok (rest next err)
 
   -- its own is held, too
-  own_held : (part : Part) (context : Context) (own : Own modules part context) (list : List Instance) → Exceeds own.whole list → Exceeds part (instance_at context ∷ list)
+  own_held : (part : PartialDesign) (context : Context) (own : Own modules part context) (list : List Instance) → Exceeds own.whole list → Exceeds part (instance_at context ∷ list)
   own_held part context own list e =
       let many = e.many in
       let more = added modules part context own e.what in
       let sum = sum_by-cons (count_in e.what) (instance_at context) list in
       record { what = e.what; many = omega (arith, many, more, sum) }
 
-  exceeds : (levels : ℕ) (part : Part) (context : Context) → elaborate_instance levels modules part context ≡ Err fault → Exceeds part (instances_from levels modules (instance_at context))
+  exceeds : (levels : ℕ) (part : PartialDesign) (context : Context) → elaborate_instance levels modules part context ≡ Err fault → Exceeds part (instances_from levels modules (instance_at context))
   exceeds zero part context is =
       let same : fault_at Depth (Some context.name) ≡ fault = cc in
       absurd (let other : Depth ≡ fault.rule = ap (λ (f : ElabFault). f.rule) same in cc)
   exceeds (suc levels) part context is = by (opened_err modules levels part context fault is) (exceeds levels)
     where
       by : OwnFault modules part context fault ⊎ ((own : Own modules part context) × (below modules levels part context own.scope own.children own.whole ≡ Err fault)) →
-          ((part : Part) (context : Context) → elaborate_instance levels modules part context ≡ Err fault → Exceeds part (instances_from levels modules (instance_at context))) →
+          ((part : PartialDesign) (context : Context) → elaborate_instance levels modules part context ≡ Err fault → Exceeds part (instances_from levels modules (instance_at context))) →
           Exceeds part (instance_at context ∷ flat_map (instances_from levels modules) (instances_in modules (instance_at context)))
       by (inl own) rest = own_exceeds part context levels own
       by (inr (own, err)) rest =
@@ -300,7 +300,7 @@ unless_some true rule word fault is = absurd cc
 unless_some false rule word fault is = refl
 
 module _ (modules : SourceTree) (top : Option Text) where
-  total_is : (what : Counted) (unit : ModuleTree) (part : Part) → elaborate_top modules unit ≡ Ok part → held what part ≡ total what (instances_from 16 modules (top_instance unit))
+  total_is : (what : Counted) (unit : ModuleTree) (part : PartialDesign) → elaborate_top modules unit ≡ Ok part → held what part ≡ total what (instances_from 16 modules (top_instance unit))
   total_is what unit part ok =
       let same = top_gathered unit.name.letters modules (λ (a b : ℕ). a + b) (held what) (total what) (counts_gather unit.name.letters modules what) unit part refl ok in
       let none = nothing_held what in
@@ -308,27 +308,27 @@ module _ (modules : SourceTree) (top : Option Text) where
 
   module _ (fault : ElabFault) (rule : fault.rule ≡ TooMany) where
     -- an action tells no count
-    abbrev kinds_in : Part → Option ElabFault
+    abbrev kinds_in : PartialDesign → Option ElabFault
     kinds_in part = table_fault (kind_rule part.variables) part.table.actions part.table.words
 
-    abbrev flaws_in : Part → Option ElabFault
+    abbrev flaws_in : PartialDesign → Option ElabFault
     flaws_in part = table_fault (flaw_rule (blank_environment part.variables)) part.table.actions part.table.words
 
-    abbrev again_in : Part → Option ElabFault
+    abbrev again_in : PartialDesign → Option ElabFault
     again_in part = drivers_fault (blank_environment part.variables) [] part.table.actions part.table.words
 
-    in_flaws : (part : Part) → (flaws_in part ≡ Some fault) ⊎ (again_in part ≡ Some fault) → ⊥
+    in_flaws : (part : PartialDesign) → (flaws_in part ≡ Some fault) ⊎ (again_in part ≡ Some fault) → ⊥
     in_flaws part (inl is) = untold_fault is_local (flaws_in part) fault TooMany
         (table_tells is_local (flaw_rule (blank_environment part.variables)) (flaw_broken is_local refl refl (blank_environment part.variables)) part.table.actions part.table.words) refl is rule
     in_flaws part (inr is) = untold_fault is_of_drivers (again_in part) fault TooMany
         (drivers_tell is_of_drivers refl (blank_environment part.variables) [] part.table.actions part.table.words) refl is rule
 
-    in_actions : (part : Part) → (kinds_in part ≡ Some fault) ⊎ (option_or (flaws_in part) (again_in part) ≡ Some fault) → ⊥
+    in_actions : (part : PartialDesign) → (kinds_in part ≡ Some fault) ⊎ (option_or (flaws_in part) (again_in part) ≡ Some fault) → ⊥
     in_actions part (inl is) = untold_fault is_local (kinds_in part) fault TooMany
         (table_tells is_local (kind_rule part.variables) (kind_broken is_local refl refl part.variables) part.table.actions part.table.words) refl is rule
     in_actions part (inr is) = in_flaws part (or_some (flaws_in part) (again_in part) fault is)
 
-    in_table : (unit : ModuleTree) (part : Part) → top_of modules top ≡ Some unit → elaborate_top modules unit ≡ Ok part →
+    in_table : (unit : ModuleTree) (part : PartialDesign) → top_of modules top ≡ Some unit → elaborate_top modules unit ≡ Ok part →
         (unless (nat_le (length part.begins) 256) TooMany (Some unit.name) ≡ Some fault) ⊎ (option_or (kinds_in part) (option_or (flaws_in part) (again_in part)) ≡ Some fault) →
         HasTooMany modules top
     in_table unit part is_top ok (inl is) =
@@ -337,7 +337,7 @@ module _ (modules : SourceTree) (top : Option Text) where
         record { what = Processes; unit = unit; is_top = is_top; many = omega (arith, more, same) }
     in_table unit part is_top ok (inr is) = absurd (in_actions part (or_some (kinds_in part) (option_or (flaws_in part) (again_in part)) fault is))
 
-    in_whole : (unit : ModuleTree) (part : Part) → top_of modules top ≡ Some unit → elaborate_top modules unit ≡ Ok part →
+    in_whole : (unit : ModuleTree) (part : PartialDesign) → top_of modules top ≡ Some unit → elaborate_top modules unit ≡ Ok part →
         (broken_paths unit.name part ≡ Some fault) ⊎ (broken_table unit.name part ≡ Some fault) → HasTooMany modules top
     in_whole unit part is_top ok (inl is) = absurd (untold_fault is_of_paths (broken_paths unit.name part) fault TooMany (broken_paths_tell is_of_paths refl refl unit.name part refl) refl is rule)
     in_whole unit part is_top ok (inr is) =

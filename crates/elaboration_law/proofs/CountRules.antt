@@ -31,7 +31,7 @@ use Rattle.velab_declaration.specs.Variables.{declared_names}
 use Rattle.velab_process.specs.Statements.{Table}
 use Rattle.velab_process.specs.Processes.{ProcessTree, Processes as Made, with_begins_before, lower_process, lower_processes, process_trees_by, lower_items}
 use Rattle.velab_process.specs.Connections.{lower_connection, lower_join, lower_joins, one_process}
-use Rattle.vhierarchy.specs.Instances.{unless_word, Instantiation, lower_list, named_again, lower_instances_of, lower_instances_by, lower_instances, Part, Context, base_of, lower_names, lower_own_processes, has_room, letters_held, letters_added}
+use Rattle.vhierarchy.specs.Instances.{unless_word, Instantiation, lower_list, named_again, lower_instances_of, lower_instances_by, lower_instances, PartialDesign, Context, base_of, lower_names, lower_own_processes, has_room, letters_held, letters_added}
 use Rattle.elaboration_law.specs.Hierarchy.{instance_by, instances_of, instances_by}
 use Rattle.elaboration_law.specs.Counts.{values_connected, events_by}
 use Rattle.elaboration_law.proofs.ToldLemmas.{is_local, is_of_connections, untold}
@@ -296,14 +296,14 @@ module _ (base : Base) (m : ModuleTree) where
 
 -- ---- names
 
-pub record NamesCounted (part : Part) (context : Context) (scope : Scope) : Type 0 where
+pub record NamesCounted (part : PartialDesign) (context : Context) (scope : Scope) : Type 0 where
   pub few_variables : length part.variables + length (declared_names context.unit) ≤ 1024
   pub few_events : scope.events ≤ 4294967295
   pub events_are : scope.events ≡ part.events + length (flat_map events_by context.unit.items)
   pub few_letters : letters_held part + letters_added context ≤ 1048576
   pub small : part.size + module_size (length context.path) context.unit ≤ 4194304
 
-module _ (part : Part) (context : Context) where
+module _ (part : PartialDesign) (context : Context) where
   abbrev counted : Result Scope ElabFault
   counted = answer_if (has_room part context) TooMany (Some context.name) (item_scope (base_of part context) context.unit)
 

@@ -8,7 +8,7 @@ use Rattle.vmodules.specs.Hierarchy.{top_of}
 use Rattle.vmodules.specs.Ports.{ports_of}
 use Rattle.velab_expr.specs.declared.fault.Rule.TheVariants.{Depth}
 use Rattle.velab_expr.specs.declared.fault.ElabFault.{ElabFault}
-use Rattle.vhierarchy.specs.Instances.{Part, Context, lower_names, lower_instances, lower_own, broken_design, elaborated}
+use Rattle.vhierarchy.specs.Instances.{PartialDesign, Context, lower_names, lower_instances, lower_own, broken_design, elaborated}
 use Rattle.elaboration_law.specs.Hierarchy.{StandsBelow, top_instance}
 use Rattle.elaboration_law.specs.Laws.{IsMeant}
 use Rattle.elaboration_law.specs.Depths.{IsTooDeep}
@@ -22,7 +22,7 @@ pub one_top : (modules : SourceTree) (top : Option Text) (m other : ModuleTree) 
 one_top modules top m other is also = cc
 
 -- no step of an instance's own tells this rule
-own_is_no_depth : (modules : SourceTree) (part : Part) (context : Context) (fault : ElabFault) → OwnFault modules part context fault → fault.rule ≡ Depth → ⊥
+own_is_no_depth : (modules : SourceTree) (part : PartialDesign) (context : Context) (fault : ElabFault) → OwnFault modules part context fault → fault.rule ≡ Depth → ⊥
 own_is_no_depth modules part context fault (in_names err) = untold is_of_names (lower_names part context) fault Depth (names_tell part context) refl err
 own_is_no_depth modules part context fault (in_instances scope names err) =
     untold is_of_instances (lower_instances modules 0 scope.known context.unit.items) fault Depth (instances_tell modules 0 scope.known context.unit.items) refl err

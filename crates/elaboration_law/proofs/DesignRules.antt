@@ -19,7 +19,7 @@ use Rattle.velab_expr.specs.Rules.{rule_of, unless, broken_if}
 use Rattle.velab_declaration.specs.Right.{writes_rightly, kind_rule}
 use Rattle.velab_declaration.specs.ActionFlaws.{action_flaw, blank_environment, flaw_rule, table_fault}
 use Rattle.velab_declaration.specs.Drives.{Place, driven_by, drives_again, drivers_fault}
-use Rattle.vhierarchy.specs.Instances.{Part, variable_paths, scope_paths, broken_chosen, broken_selection, broken_paths, broken_table, broken_design}
+use Rattle.vhierarchy.specs.Instances.{PartialDesign, variable_paths, scope_paths, broken_chosen, broken_selection, broken_paths, broken_table, broken_design}
 use Rattle.elaboration_law.proofs.ToldLemmas.{TellsFault, TellsRule}
 
 -- the rules that a finished design can break
@@ -130,7 +130,7 @@ module _ (rules : Rule → Bool) (unknown : rules Unknown ≡ true) (kind : rule
   selection_broken scopes variables Finish = tt
   selection_broken scopes variables Stop = tt
 
-  pub broken_paths_tell : (top : Word) (part : Part) → rules Doubled ≡ true → TellsFault rules (broken_paths top part)
+  pub broken_paths_tell : (top : Word) (part : PartialDesign) → rules Doubled ≡ true → TellsFault rules (broken_paths top part)
   broken_paths_tell top part doubled =
       let scopes = scope_paths part in
       let paths = variable_paths part in
@@ -159,7 +159,7 @@ module _ (rules : Rule → Bool) (width : rules Width ≡ true) (kind : rules Ki
 
   -- ---- of the whole
 
-  pub broken_table_tells : rules Drivers ≡ true → (top : Word) (part : Part) → rules TooMany ≡ true → TellsFault rules (broken_table top part)
+  pub broken_table_tells : rules Drivers ≡ true → (top : Word) (part : PartialDesign) → rules TooMany ≡ true → TellsFault rules (broken_table top part)
   broken_table_tells drivers top part many =
       let now = blank_environment part.variables in
       let kinds = table_fault (kind_rule part.variables) part.table.actions part.table.words in
@@ -174,6 +174,6 @@ module _ (rules : Rule → Bool) (width : rules Width ≡ true) (kind : rules Ki
       (drivers_tell rules drivers now [] part.table.actions part.table.words)))
 
 module _ (rules : Rule → Bool) (unknown : rules Unknown ≡ true) (width : rules Width ≡ true) (kind : rules Kind ≡ true) (drivers : rules Drivers ≡ true) where
-  pub design_tells : (top : Word) (part : Part) → rules Doubled ≡ true → rules TooMany ≡ true → TellsFault rules (broken_design top part)
+  pub design_tells : (top : Word) (part : PartialDesign) → rules Doubled ≡ true → rules TooMany ≡ true → TellsFault rules (broken_design top part)
   design_tells top part doubled many =
       or_tells rules (broken_paths top part) (broken_table top part) (broken_paths_tell rules unknown kind top part doubled) (broken_table_tells rules width kind drivers top part many)

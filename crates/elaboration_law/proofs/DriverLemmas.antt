@@ -16,7 +16,7 @@ use Rattle.velab_expr.specs.Rules.{unless}
 use Rattle.velab_declaration.specs.Right.{kind_rule}
 use Rattle.velab_declaration.specs.ActionFlaws.{blank_environment, flaw_rule, table_fault}
 use Rattle.velab_declaration.specs.Drives.{Place, same_place, is_driven, drives_again, drivers_fault, driven_by, driven_by_all}
-use Rattle.vhierarchy.specs.Instances.{lower_own, lower_names, lower_instances, Part, Context, elaborate_top, driven_in, broken_paths, broken_table, broken_design, elaborated}
+use Rattle.vhierarchy.specs.Instances.{lower_own, lower_names, lower_instances, PartialDesign, Context, elaborate_top, driven_in, broken_paths, broken_table, broken_design, elaborated}
 use Rattle.elaboration_law.specs.Hierarchy.{top_instance}
 use Rattle.elaboration_law.specs.Laws.{IsMeant}
 use Rattle.elaboration_law.specs.Drivers.{HasTwoDrivers}
@@ -153,7 +153,7 @@ again_told now before (action ∷ more) words =
 
 -- ---- the law
 
-module _ (modules : SourceTree) (part : Part) (context : Context) (fault : ElabFault) (rule : fault.rule ≡ Drivers) where
+module _ (modules : SourceTree) (part : PartialDesign) (context : Context) (fault : ElabFault) (rule : fault.rule ≡ Drivers) where
   own_is_no_driver : OwnFault modules part context fault → ⊥
   own_is_no_driver (in_names err) = untold is_of_names (lower_names part context) fault Drivers (names_tell part context) refl err rule
   own_is_no_driver (in_instances scope names err) =
@@ -166,7 +166,7 @@ module _ (modules : SourceTree) (top : Option Text) where
   below_untold fault unit rule (too_deep one other stands) = absurd cc
   below_untold fault unit rule (by_own depth part context stands own) = own_is_no_driver modules part context fault rule own
 
-  module _ (unit : ModuleTree) (part : Part) where
+  module _ (unit : ModuleTree) (part : PartialDesign) where
     abbrev now : Environment
     now = blank_environment part.variables
 
@@ -240,7 +240,7 @@ module _ (modules : SourceTree) (top : Option Text) where
       let same = one_top modules top two.unit all.unit two.is_top all.is_top in
       let made = ap (elaborate_top modules) same ∙ all.is_part in
       let part = same_value two.part all.part (sym two.lowered ∙ made) in
-      let once = ap (λ (p : Part). drives_again [] (driven_in p)) part ∙ design_once all.unit all.part all.is_right in
+      let once = ap (λ (p : PartialDesign). drives_again [] (driven_in p)) part ∙ design_once all.unit all.part all.is_right in
       once_driven [] (driven_in two.part) once two.place two.one two.other two.before (omega arith) two.driven two.again
 
 pub drivers_meant : IsMeant Drivers HasTwoDrivers

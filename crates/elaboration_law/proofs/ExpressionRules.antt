@@ -67,8 +67,8 @@ unflawed_tells None word x = tt
 unflawed_tells (Some NoBits) word x = refl
 unflawed_tells (Some Size) word x = refl
 
-measured_tells : (word : Option Word) (tree : ExpressionTree) → Tells is_local (checked_constant word tree)
-measured_tells word tree = unflawed_tells (flaw_of nothing tree) word (constant_value tree)
+checked_tells : (word : Option Word) (tree : ExpressionTree) → Tells is_local (checked_constant word tree)
+checked_tells word tree = unflawed_tells (flaw_of nothing tree) word (constant_value tree)
 
 part_tells : (operand : Operand) (bounds : Bounds) (name : Word) → Tells is_local (part_in operand bounds name)
 part_tells (operand.Variable number) bounds name = tt
@@ -89,15 +89,15 @@ mutual
   lower_tells fixed scope (text.part letters left right) =
       then_tells is_local (lower_name fixed scope letters) _ (name_tells fixed scope letters) (λ operand.
       then_tells is_local (lower true scope left >>= checked_constant (first_in left)) _
-      (then_tells is_local (lower true scope left) _ (lower_tells true scope left) (λ e. measured_tells (first_in left) e)) (λ high.
+      (then_tells is_local (lower true scope left) _ (lower_tells true scope left) (λ e. checked_tells (first_in left) e)) (λ high.
       then_tells is_local (lower true scope right >>= checked_constant (first_in right)) _
-      (then_tells is_local (lower true scope right) _ (lower_tells true scope right) (λ e. measured_tells (first_in right) e)) (λ low.
+      (then_tells is_local (lower true scope right) _ (lower_tells true scope right) (λ e. checked_tells (first_in right) e)) (λ low.
       part_tells operand (part_bounds high low) letters)))
   lower_tells fixed scope (text.parentheses inner) = lower_tells fixed scope inner
   lower_tells fixed scope (text.concatenation parts) = few_tells parts (lower_parts fixed scope parts) (parts_tell fixed scope parts)
   lower_tells fixed scope (text.replication count parts) =
       then_tells is_local (lower true scope count >>= checked_constant (first_in count)) _
-      (then_tells is_local (lower true scope count) _ (lower_tells true scope count) (λ e. measured_tells (first_in count) e)) (λ amount.
+      (then_tells is_local (lower true scope count) _ (lower_tells true scope count) (λ e. checked_tells (first_in count) e)) (λ amount.
       then_tells is_local (check_part_count parts (lower_parts fixed scope parts)) _ (few_tells parts (lower_parts fixed scope parts) (parts_tell fixed scope parts)) (λ e. tt))
   lower_tells fixed scope (text.conversion signed inner) = then_tells is_local (lower fixed scope inner) _ (lower_tells fixed scope inner) (λ operand. tt)
   lower_tells fixed scope (text.apply operator inner) = then_tells is_local (lower fixed scope inner) _ (lower_tells fixed scope inner) (λ operand. tt)
@@ -122,7 +122,7 @@ pub constant_tells : (scope : Scope) (tree : text.ExpressionTree) → Tells is_l
 constant_tells scope tree = then_tells is_local (lower true scope tree) _ (lower_tells true scope tree) (λ e. unflawed_tells (flaw_of nothing e) (first_in tree) e)
 
 value_tells : (scope : Scope) (tree : text.ExpressionTree) → Tells is_local (lower_value scope tree)
-value_tells scope tree = then_tells is_local (lower true scope tree) _ (lower_tells true scope tree) (λ e. measured_tells (first_in tree) e)
+value_tells scope tree = then_tells is_local (lower true scope tree) _ (lower_tells true scope tree) (λ e. checked_tells (first_in tree) e)
 
 -- ---- ranges
 

@@ -23,7 +23,7 @@ use Rattle.velab_expr.specs.Answers.{◌>>=◌, value_or_fault}
 use Rattle.velab_expr.specs.Scopes.{Scope}
 use Rattle.velab_expr.specs.Symbols.{symbols_by}
 use Rattle.velab_declaration.specs.Variables.{port_names}
-use Rattle.vhierarchy.specs.Instances.{rule_of_port, broken_ports, unless_fault, top_whole, value_unless_fault, Instantiation, instantiation_by, lower_instance, lower_list, named_again, lower_instances_of, lower_instances_by, lower_instances, Part, Context, lower_names, lower_own, child_context, each, elaborate_instance, nothing, top_context, elaborate_top, design_by, broken_design, Whole, check, whole_of, elaborated_whole, elaborated}
+use Rattle.vhierarchy.specs.Instances.{rule_of_port, broken_ports, unless_fault, top_whole, value_unless_fault, Instantiation, instantiation_by, lower_instance, lower_list, named_again, lower_instances_of, lower_instances_by, lower_instances, PartialDesign, Context, lower_names, lower_own, child_context, each, elaborate_instance, nothing, top_context, elaborate_top, design_by, broken_design, Whole, check, whole_of, elaborated_whole, elaborated}
 use Rattle.elaboration_law.specs.Hierarchy.{Instance, instance_by, instances_of, instances_by, instances_in, StandsBelow, top_instance}
 use Rattle.elaboration_law.proofs.StepLemmas.{same_value, then_ok, then_err, provided_ok, barring_ok, barring_err, found_ok, found_err, contains_first, contains_more, contains_none, contains_mapped, mapped_contains}
 
@@ -77,10 +77,10 @@ module _ (modules : SourceTree) (path : Text) where
 
 -- ---- one after another
 
-module _ (step : Part → Instantiation → Result Part ElabFault) where
+module _ (step : PartialDesign → Instantiation → Result PartialDesign ElabFault) where
   -- the answer of the step for one of them
-  pub each_ok : (part all : Part) (list : List Instantiation) (one : Instantiation) → each step part list ≡ Ok all → Contains list one →
-      (before : Part) × (after : Part) × (step before one ≡ Ok after)
+  pub each_ok : (part all : PartialDesign) (list : List Instantiation) (one : Instantiation) → each step part list ≡ Ok all → Contains list one →
+      (before : PartialDesign) × (after : PartialDesign) × (step before one ≡ Ok after)
   each_ok part all [] one is h = absurd (contains_none one h)
   each_ok part all (first ∷ more) one is (zero, lt, same) =
       let front = then_ok (step part first) (λ next. each step next more) all is in
@@ -89,14 +89,14 @@ module _ (step : Part → Instantiation → Result Part ElabFault) where
       let front = then_ok (step part first) (λ next. each step next more) all is in
       each_ok front.0 all more one front.2 (k, omega (arith, lt), same)
 
-  pub each_err : (part : Part) (list : List Instantiation) (fault : ElabFault) → each step part list ≡ Err fault →
-      (before : Part) × (one : Instantiation) × Contains list one × (step before one ≡ Err fault)
+  pub each_err : (part : PartialDesign) (list : List Instantiation) (fault : ElabFault) → each step part list ≡ Err fault →
+      (before : PartialDesign) × (one : Instantiation) × Contains list one × (step before one ≡ Err fault)
   each_err part [] fault is = absurd cc
   each_err part (first ∷ more) fault is = by (then_err (step part first) (λ next. each step next more) fault is) (λ next. each_err next more fault)
     where
-      by : (step part first ≡ Err fault) ⊎ ((next : Part) × (step part first ≡ Ok next) × (each step next more ≡ Err fault)) →
-          ((next : Part) → each step next more ≡ Err fault → (before : Part) × (one : Instantiation) × Contains more one × (step before one ≡ Err fault)) →
-          (before : Part) × (one : Instantiation) × Contains (first ∷ more) one × (step before one ≡ Err fault)
+      by : (step part first ≡ Err fault) ⊎ ((next : PartialDesign) × (step part first ≡ Ok next) × (each step next more ≡ Err fault)) →
+          ((next : PartialDesign) → each step next more ≡ Err fault → (before : PartialDesign) × (one : Instantiation) × Contains more one × (step before one ≡ Err fault)) →
+          (before : PartialDesign) × (one : Instantiation) × Contains (first ∷ more) one × (step before one ≡ Err fault)
       by (inl here) rest = (part, first, contains_first first more, here)
       by (inr (next, ok, err)) rest =
           let r = rest next err in
@@ -105,33 +105,33 @@ module _ (step : Part → Instantiation → Result Part ElabFault) where
 -- ---- an instance
 
 -- its own steps, each answered
-pub record Own (modules : SourceTree) (part : Part) (context : Context) : Type 0 where
+pub record Own (modules : SourceTree) (part : PartialDesign) (context : Context) : Type 0 where
   pub scope : Scope
   pub children : List Instantiation
-  pub whole : Part
+  pub whole : PartialDesign
   pub names_are : lower_names part context ≡ Ok scope
   pub instances_are : lower_instances modules 0 scope.known context.unit.items ≡ Ok children
   pub own_is : lower_own context (ports_of context.unit) scope part ≡ Ok whole
 
 -- or the first of them that tells the fault
-pub data OwnFault (modules : SourceTree) (part : Part) (context : Context) (fault : ElabFault) : Type 0 where
+pub data OwnFault (modules : SourceTree) (part : PartialDesign) (context : Context) (fault : ElabFault) : Type 0 where
   in_names : lower_names part context ≡ Err fault → OwnFault modules part context fault
   in_instances : (scope : Scope) → lower_names part context ≡ Ok scope → lower_instances modules 0 scope.known context.unit.items ≡ Err fault → OwnFault modules part context fault
   in_own : (scope : Scope) (children : List Instantiation) → lower_names part context ≡ Ok scope → lower_instances modules 0 scope.known context.unit.items ≡ Ok children →
       lower_own context (ports_of context.unit) scope part ≡ Err fault → OwnFault modules part context fault
 
-module _ (modules : SourceTree) (levels : ℕ) (part : Part) (context : Context) where
+module _ (modules : SourceTree) (levels : ℕ) (part : PartialDesign) (context : Context) where
   -- the instances in it, behind its own
-  abbrev pub below : Scope → List Instantiation → Part → Result Part ElabFault
+  abbrev pub below : Scope → List Instantiation → PartialDesign → Result PartialDesign ElabFault
   below scope children own = each (λ so_far child. elaborate_instance levels modules so_far (child_context scope context child)) own children
 
-  abbrev after_instances : Scope → List Instantiation → Result Part ElabFault
+  abbrev after_instances : Scope → List Instantiation → Result PartialDesign ElabFault
   after_instances scope children = lower_own context (ports_of context.unit) scope part >>= λ own. below scope children own
 
-  abbrev after_names : Scope → Result Part ElabFault
+  abbrev after_names : Scope → Result PartialDesign ElabFault
   after_names scope = lower_instances modules 0 scope.known context.unit.items >>= λ children. after_instances scope children
 
-  pub opened_ok : (all : Part) → elaborate_instance (suc levels) modules part context ≡ Ok all → (own : Own modules part context) × (below own.scope own.children own.whole ≡ Ok all)
+  pub opened_ok : (all : PartialDesign) → elaborate_instance (suc levels) modules part context ≡ Ok all → (own : Own modules part context) × (below own.scope own.children own.whole ≡ Ok all)
   opened_ok all is =
       let names = then_ok (lower_names part context) after_names all is in
       let wanted = then_ok (lower_instances modules 0 names.0.known context.unit.items) (after_instances names.0) all names.2 in
@@ -143,7 +143,7 @@ module _ (modules : SourceTree) (levels : ℕ) (part : Part) (context : Context)
   opened_err fault is = by (then_err (lower_names part context) after_names fault is)
     where
       last : (scope : Scope) (children : List Instantiation) → lower_names part context ≡ Ok scope → lower_instances modules 0 scope.known context.unit.items ≡ Ok children →
-          (lower_own context (ports_of context.unit) scope part ≡ Err fault) ⊎ ((own : Part) × (lower_own context (ports_of context.unit) scope part ≡ Ok own) × (below scope children own ≡ Err fault)) →
+          (lower_own context (ports_of context.unit) scope part ≡ Err fault) ⊎ ((own : PartialDesign) × (lower_own context (ports_of context.unit) scope part ≡ Ok own) × (below scope children own ≡ Err fault)) →
           OwnFault modules part context fault ⊎ ((own : Own modules part context) × (below own.scope own.children own.whole ≡ Err fault))
       last scope children names wanted (inl err) = inl (in_own scope children names wanted err)
       last scope children names wanted (inr (own, ok, err)) =
@@ -165,13 +165,13 @@ module _ (modules : SourceTree) (levels : ℕ) (part : Part) (context : Context)
 
 -- this instance was elaborated, with so many levels left below it
 pub record WasElaborated (modules : SourceTree) (levels : ℕ) (one : Instance) : Type 0 where
-  pub part : Part
+  pub part : PartialDesign
   pub context : Context
   pub at : instance_at context ≡ one
   pub own : Own modules part context
 
 module _ (modules : SourceTree) where
-  pub elaborated_below : (depth levels : ℕ) (part : Part) (context : Context) (all : Part) (one : Instance) → elaborate_instance levels modules part context ≡ Ok all →
+  pub elaborated_below : (depth levels : ℕ) (part : PartialDesign) (context : Context) (all : PartialDesign) (one : Instance) → elaborate_instance levels modules part context ≡ Ok all →
       StandsBelow modules depth (instance_at context) one → (left : ℕ) × (depth + suc left ≡ levels) × WasElaborated modules left one
   elaborated_below depth zero part context all one is stands = absurd cc
   elaborated_below zero (suc levels) part context all one is stands =
@@ -189,19 +189,19 @@ module _ (modules : SourceTree) where
 -- where a fault is told: by an instance, or by one that is too deep
 pub data ToldBelow (modules : SourceTree) (levels : ℕ) (top : Instance) (fault : ElabFault) : Type 0 where
   too_deep : (one : Instance) → fault.rule ≡ Depth → StandsBelow modules levels top one → ToldBelow modules levels top fault
-  by_own : (depth : ℕ) (part : Part) (context : Context) → StandsBelow modules depth top (instance_at context) → OwnFault modules part context fault → ToldBelow modules levels top fault
+  by_own : (depth : ℕ) (part : PartialDesign) (context : Context) → StandsBelow modules depth top (instance_at context) → OwnFault modules part context fault → ToldBelow modules levels top fault
 
 module _ (modules : SourceTree) (fault : ElabFault) where
   one_deeper : (levels : ℕ) (top child : Instance) → Contains (instances_in modules top) child → ToldBelow modules levels child fault → ToldBelow modules (suc levels) top fault
   one_deeper levels top child inside (too_deep one is stands) = too_deep one is (child, inside, stands)
   one_deeper levels top child inside (by_own depth part context stands own) = by_own (suc depth) part context (child, inside, stands) own
 
-  pub told_below : (levels : ℕ) (part : Part) (context : Context) → elaborate_instance levels modules part context ≡ Err fault → ToldBelow modules levels (instance_at context) fault
+  pub told_below : (levels : ℕ) (part : PartialDesign) (context : Context) → elaborate_instance levels modules part context ≡ Err fault → ToldBelow modules levels (instance_at context) fault
   told_below zero part context is = let same : fault_at Depth (Some context.name) ≡ fault = cc in too_deep (instance_at context) (ap (λ (f : ElabFault). f.rule) (sym same)) refl
   told_below (suc levels) part context is = by (opened_err modules levels part context fault is) (λ before scope child. told_below levels before (child_context scope context child))
     where
       by : OwnFault modules part context fault ⊎ ((own : Own modules part context) × (below modules levels part context own.scope own.children own.whole ≡ Err fault)) →
-          ((before : Part) (scope : Scope) (child : Instantiation) → elaborate_instance levels modules before (child_context scope context child) ≡ Err fault →
+          ((before : PartialDesign) (scope : Scope) (child : Instantiation) → elaborate_instance levels modules before (child_context scope context child) ≡ Err fault →
           ToldBelow modules levels (instance_at (child_context scope context child)) fault) →
           ToldBelow modules (suc levels) (instance_at context) fault
       by (inl own) rest = by_own 0 part context refl own
@@ -216,7 +216,7 @@ module _ (modules : SourceTree) (fault : ElabFault) where
 -- what is elaborated, and checked
 pub record Elaborated (modules : SourceTree) (top : Option Text) (scale : Timescale) (design : Design) : Type 0 where
   pub unit : ModuleTree
-  pub part : Part
+  pub part : PartialDesign
   pub modules_differ : first_again (module_names modules) ≡ None
   pub ports_right : first_misdeclared modules ≡ None
   pub is_top : top_of modules top ≡ Some unit
@@ -230,7 +230,7 @@ pub data Told (modules : SourceTree) (top : Option Text) (fault : ElabFault) : T
   in_ports : (m : Misdeclared) → first_misdeclared modules ≡ Some m → rule_of_port m.flaw ≡ fault.rule → Told modules top fault
   in_top : top_of modules top ≡ None → fault.rule ≡ Top → Told modules top fault
   in_hierarchy : (unit : ModuleTree) → top_of modules top ≡ Some unit → elaborate_top modules unit ≡ Err fault → Told modules top fault
-  in_design : (unit : ModuleTree) (part : Part) → top_of modules top ≡ Some unit → elaborate_top modules unit ≡ Ok part → broken_design unit.name part ≡ Some fault → Told modules top fault
+  in_design : (unit : ModuleTree) (part : PartialDesign) → top_of modules top ≡ Some unit → elaborate_top modules unit ≡ Ok part → broken_design unit.name part ≡ Some fault → Told modules top fault
 
 same_design : (scale : Timescale) (whole other : Whole) (design : Design) → other ≡ whole → (let made : Result Design ElabFault = Ok (design_by scale whole.unit whole.part) in made ≡ Ok design) → design_by scale other.unit other.part ≡ design
 same_design scale whole other design same is = ap (λ (w : Whole). design_by scale w.unit w.part) same ∙ same_value (design_by scale whole.unit whole.part) design is
@@ -325,7 +325,7 @@ module _ (modules : SourceTree) (top : Option Text) (scale : Timescale) where
 
   module _ (fault : ElabFault) where
     checked_told : (unit : ModuleTree) → top_of modules top ≡ Some unit →
-        (elaborate_top modules unit ≡ Err fault) ⊎ ((part : Part) × (elaborate_top modules unit ≡ Ok part) × (check unit part ≡ Err fault)) → Told modules top fault
+        (elaborate_top modules unit ≡ Err fault) ⊎ ((part : PartialDesign) × (elaborate_top modules unit ≡ Ok part) × (check unit part ≡ Err fault)) → Told modules top fault
     checked_told unit is_top (inl err) = in_hierarchy unit is_top err
     checked_told unit is_top (inr (part, ok, err)) = in_design unit part is_top ok (faultless_err (broken_design unit.name part) (record { unit = unit; part = part }) fault err)
 
@@ -352,7 +352,7 @@ module _ (modules : SourceTree) (top : Option Text) (scale : Timescale) where
 
 -- the same of a text's top
 module _ (modules : SourceTree) (m : ModuleTree) where
-  pub top_elaborated : (part : Part) (depth : ℕ) (one : Instance) → elaborate_top modules m ≡ Ok part → StandsBelow modules depth (top_instance m) one →
+  pub top_elaborated : (part : PartialDesign) (depth : ℕ) (one : Instance) → elaborate_top modules m ≡ Ok part → StandsBelow modules depth (top_instance m) one →
       (left : ℕ) × (depth + suc left ≡ 16) × WasElaborated modules left one
   unfolding elaborate_top
   top_elaborated part depth one is stands = elaborated_below modules depth 16 nothing (top_context m) part one is stands

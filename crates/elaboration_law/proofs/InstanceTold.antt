@@ -32,7 +32,7 @@ use Rattle.velab_declaration.specs.Variables.{port_declaration, declarations, po
 use Rattle.velab_process.specs.Statements.{Table}
 use Rattle.velab_process.specs.Processes.{Processes, with_begins_before, lower_items}
 use Rattle.velab_process.specs.Connections.{lower_input, lower_output, lower_connection, lower_join, lower_joins}
-use Rattle.vhierarchy.specs.Instances.{unless_word, lower_instance, lower_list, named_again, lower_instances_of, lower_instances_by, lower_instances, Part, Context, base_of, has_room, lower_names, lower_own, lower_own_variables, lower_own_processes, with_own, few_enough}
+use Rattle.vhierarchy.specs.Instances.{unless_word, lower_instance, lower_list, named_again, lower_instances_of, lower_instances_by, lower_instances, PartialDesign, Context, base_of, has_room, lower_names, lower_own, lower_own_variables, lower_own_processes, with_own, few_enough}
 use Rattle.elaboration_law.specs.Widths.{Worth, is_sized, is_target}
 use Rattle.elaboration_law.specs.Worths.{are_set_in, are_ranged, is_port_ranged, is_item_ranged}
 use Rattle.elaboration_law.specs.WrongWidths.{is_sized_output, is_sized_at, is_sized_connection, Instantiated, constants_in, worth_in, is_connected, is_sized_item, has_right_widths}
@@ -159,10 +159,10 @@ round_more vs more scope named h = record {
 }
 
 -- what a part of a design has has no flaw only where this holds, whatever variables are still to come
-abbrev pub Carries : Part → Bool → Type 0
+abbrev pub Carries : PartialDesign → Bool → Type 0
 Carries part t = (rest : List Variable) → Says (table_flaw (blank_environment (part.variables ++ rest)) part.table) t
 
-pub carried : (part : Part) (more : List Variable) (t : Bool) → Carries part t → (rest : List Variable) → Says (table_flaw (blank_environment ((part.variables ++ more) ++ rest)) part.table) t
+pub carried : (part : PartialDesign) (more : List Variable) (t : Bool) → Carries part t → (rest : List Variable) → Says (table_flaw (blank_environment ((part.variables ++ more) ++ rest)) part.table) t
 carried part more t h rest = subst (λ (l : List Variable). Says (table_flaw (blank_environment l) part.table) t) (sym (append_assoc part.variables more rest)) (h (more ++ rest))
 
 -- ---- an instance's own steps
@@ -170,7 +170,7 @@ carried part more t h rest = subst (λ (l : List Variable). Says (table_flaw (bl
 abbrev pub instantiated : (Text → Worth) → Context → Instantiated
 instantiated outside context = record { unit = context.unit; outside = outside; values = context.overrides.values; connections = context.connections }
 
-module _ (part : Part) (context : Context) (outside : Text → Worth) (round : IsRound part.variables context.overrides.scope outside) where
+module _ (part : PartialDesign) (context : Context) (outside : Text → Worth) (round : IsRound part.variables context.overrides.scope outside) where
   abbrev pub one : Instantiated
   one = instantiated outside context
 
@@ -282,7 +282,7 @@ module _ (part : Part) (context : Context) (outside : Text → Worth) (round : I
         (t && has_right_widths one) ≡ false
     own_wrong t carries fault width err = by (then_err (lower_own_variables context (ports_of context.unit) scope) behind fault err)
       where
-        behind : List Variable → Result Part ElabFault
+        behind : List Variable → Result PartialDesign ElabFault
         behind vs = lower_own_processes context (ports_of context.unit) scope part.table >>= λ processes. few_enough context.name (with_own context scope part vs processes)
 
         of_ranges : is_ranged ≡ false → (t && has_right_widths one) ≡ false

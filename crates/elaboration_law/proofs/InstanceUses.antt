@@ -29,7 +29,7 @@ use Rattle.velab_expr.specs.Written.{lower_net_target, target_of}
 use Rattle.velab_process.specs.Statements.{Table}
 use Rattle.velab_process.specs.Processes.{Processes, process_trees_by, lower_processes, lower_items, with_begins_before}
 use Rattle.velab_process.specs.Connections.{lower_input, lower_output, lower_connection, lower_join, lower_joins}
-use Rattle.vhierarchy.specs.Instances.{unless_word, Instantiation, instantiation_by, lower_instance, lower_list, named_again, lower_instances_of, lower_instances_by, lower_instances, lower_own_variables, lower_own_processes, with_own, few_enough, lower_own, base_of, lower_names, Part, Context, has_room}
+use Rattle.vhierarchy.specs.Instances.{unless_word, Instantiation, instantiation_by, lower_instance, lower_list, named_again, lower_instances_of, lower_instances_by, lower_instances, lower_own_variables, lower_own_processes, with_own, few_enough, lower_own, base_of, lower_names, PartialDesign, Context, has_room}
 use Rattle.elaboration_law.specs.Uses.{Use, Read, Driven, use_of, used_in, used_in_range, used_in_target_by}
 use Rattle.elaboration_law.specs.Places.{Place, UseAt, at_place, all_fit, variables_of, place_behind, place_after, used_in_type, used_outside, used_by_output, used_at_port, used_if_connected, used_in_kind, used_in_declaration, used_in_processes, used_in_placed, used_in_symbol, used_in_symbols, used_again, port_place, used_in_port, used_in_connection, used_by_items, used_by_own_processes, used_in_instance}
 use Rattle.elaboration_law.proofs.HierarchyLemmas.{Own, OwnFault, in_names, in_instances, in_own}
@@ -303,7 +303,7 @@ module _ (r : UseRule) where
 
   -- ---- an instance
 
-  module _ (part : Part) (context : Context) (outside : Place) (around : IsAt outside context.overrides.scope) where
+  module _ (part : PartialDesign) (context : Context) (outside : Place) (around : IsAt outside context.overrides.scope) where
     abbrev base : Base
     base = base_of part context
 
@@ -372,7 +372,7 @@ module _ (r : UseRule) where
     abbrev in_items : List UseAt
     in_items = used_by_own_processes context.unit context.path
 
-    few_silent : (made : Part) → Judges asked true (few_enough context.name made)
+    few_silent : (made : PartialDesign) → Judges asked true (few_enough context.name made)
     few_silent made =
         provided_judges asked true (nat_le (length made.begins) 256) TooMany (Some context.name) (require (nat_le (length made.scopes) 1025) TooMany (Some context.name) made) r.no_many
         (required_judges asked (nat_le (length made.scopes) 1025) TooMany (Some context.name) made r.no_many)
@@ -415,7 +415,7 @@ module _ (r : UseRule) where
     in_instance = used_in_instance context.unit outside context.overrides.values context.connections context.path
 
     module _ (modules : SourceTree) where
-      abbrev after_names : Scope → Result Part ElabFault
+      abbrev after_names : Scope → Result PartialDesign ElabFault
       after_names scope = lower_instances modules 0 scope.known context.unit.items >>= λ children. lower_own context ports scope part
 
       instance_judged : Judged r in_instance (lower_names part context >>= after_names)

@@ -17,7 +17,7 @@ use Rattle.velab_expr.specs.Rules.{unless, broken_if}
 use Rattle.velab_declaration.specs.Right.{writes_rightly, kind_rule}
 use Rattle.velab_declaration.specs.ActionFlaws.{blank_environment, flaw_rule, table_fault}
 use Rattle.velab_declaration.specs.Drives.{drivers_fault}
-use Rattle.vhierarchy.specs.Instances.{Part, variable_paths, scope_paths, broken_path, broken_selection, broken_paths, broken_table, broken_design, elaborate_top, elaborated}
+use Rattle.vhierarchy.specs.Instances.{PartialDesign, variable_paths, scope_paths, broken_path, broken_selection, broken_paths, broken_table, broken_design, elaborate_top, elaborated}
 use Rattle.elaboration_law.specs.Laws.{IsMeant}
 use Rattle.elaboration_law.specs.Uses.{Way, Read, ReadIn, Written, WrittenIn, Driven, DrivenIn, Triggered, Awaited, Use, use_of, use_of_time, use_of_formats, use_of_levels}
 use Rattle.elaboration_law.specs.Places.{Thing, a_variable, a_parameter, an_event, an_instance, Place, no_place, thing_of, UseAt, all_fit, used_in_instance, HasMisuse, of_top, of_instance}
@@ -134,7 +134,7 @@ both_all vs actions = all_of_both (writes_rightly vs) (action_bits vs) actions
 abbrev of_kind : ElabFault → Bool
 of_kind f = is_kind f.rule
 
-module _ (modules : SourceTree) (top : Option Text) (unit : ModuleTree) (part : Part) (ok : elaborate_top modules unit ≡ Ok part) where
+module _ (modules : SourceTree) (top : Option Text) (unit : ModuleTree) (part : PartialDesign) (ok : elaborate_top modules unit ≡ Ok part) where
   there_alike : list_all (no_variable (scope_paths part) (variable_paths part)) (dumped part.table) ≡ selects_no_variable unit.name.letters (all_below modules unit)
   there_alike = λ i. list_all (no_variable (paths_are modules top unit part ok i) (variables_are modules top unit part ok i)) (dumped_are modules top unit part ok i)
 

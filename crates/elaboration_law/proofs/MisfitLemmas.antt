@@ -25,7 +25,7 @@ use Rattle.velab_declaration.specs.Variables.{port_names}
 use Rattle.velab_process.specs.Statements.{Table}
 use Rattle.velab_process.specs.Processes.{Processes as Made, with_begins_before, lower_items}
 use Rattle.velab_process.specs.Connections.{lower_input, lower_output, lower_connection, lower_join, lower_joins, one_process}
-use Rattle.vhierarchy.specs.Instances.{unless_word, Instantiation, instantiation_by, lower_instance, lower_list, named_again, lower_instances_of, lower_instances, lower_own_variables, with_own, lower_names, Part, Context, broken_design, elaborated}
+use Rattle.vhierarchy.specs.Instances.{unless_word, Instantiation, instantiation_by, lower_instance, lower_list, named_again, lower_instances_of, lower_instances, lower_own_variables, with_own, lower_names, PartialDesign, Context, broken_design, elaborated}
 use Rattle.elaboration_law.specs.Hierarchy.{Instance, StandsBelow, top_instance}
 use Rattle.elaboration_law.specs.Laws.{IsMeant}
 use Rattle.elaboration_law.specs.Misfits.{Misfits, HasMisfit, of_instance, of_output}
@@ -238,7 +238,7 @@ module _ (whose : Word) (outer inner : Scope) where
 
 -- ---- an instance's own
 
-module _ (context : Context) (scope : Scope) (part : Part) (fault : ElabFault) (rule : fault.rule ≡ Ports) where
+module _ (context : Context) (scope : Scope) (part : PartialDesign) (fault : ElabFault) (rule : fault.rule ≡ Ports) where
   abbrev ports : List Port
   ports = ports_of context.unit
 
@@ -265,7 +265,7 @@ module _ (context : Context) (scope : Scope) (part : Part) (fault : ElabFault) (
 -- ---- the law
 
 module _ (modules : SourceTree) (top : Option Text) where
-  step_told : (fault : ElabFault) (unit : ModuleTree) (depth : ℕ) (part : Part) (context : Context) → top_of modules top ≡ Some unit → fault.rule ≡ Ports → StandsBelow modules depth (top_instance unit) (instance_at context) →
+  step_told : (fault : ElabFault) (unit : ModuleTree) (depth : ℕ) (part : PartialDesign) (context : Context) → top_of modules top ≡ Some unit → fault.rule ≡ Ports → StandsBelow modules depth (top_instance unit) (instance_at context) →
       OwnFault modules part context fault → HasMisfit modules top
   step_told fault unit depth part context is_top rule stands (in_names err) = absurd (untold is_of_names (lower_names part context) fault Ports (names_tell part context) refl err rule)
   step_told fault unit depth part context is_top rule stands (in_instances scope names err) =

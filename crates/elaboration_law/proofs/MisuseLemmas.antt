@@ -15,7 +15,7 @@ use Rattle.velab_expr.specs.Rules.{fault_at}
 use Rattle.velab_expr.specs.Scopes.{Scope, at}
 use Rattle.velab_expr.specs.Symbols.{symbols_by}
 use Rattle.velab_declaration.specs.Variables.{port_names}
-use Rattle.vhierarchy.specs.Instances.{Instantiation, instantiation_by, lower_instances, elaborate_instance, Part, Context, lower_names, child_context, nothing, top_context, elaborate_top, elaborated}
+use Rattle.vhierarchy.specs.Instances.{Instantiation, instantiation_by, lower_instances, elaborate_instance, PartialDesign, Context, lower_names, child_context, nothing, top_context, elaborate_top, elaborated}
 use Rattle.elaboration_law.specs.Hierarchy.{Instance, instances_in, StandsBelow, top_instance}
 use Rattle.elaboration_law.specs.Uses.{Use}
 use Rattle.elaboration_law.specs.Places.{Place, no_place, place_behind, UseAt, all_fit, used_in_instance, HasMisuse, of_top, of_instance}
@@ -39,20 +39,20 @@ used_by_listed one before overrides child made =
 -- what was elaborated for an instance, it and all below it
 record AnsweredAt (modules : SourceTree) (one : Instance) : Type 0 where
   pub levels : ℕ
-  pub part : Part
+  pub part : PartialDesign
   pub context : Context
-  pub all : Part
+  pub all : PartialDesign
   pub at : instance_at context ≡ one
   pub is : elaborate_instance levels modules part context ≡ Ok all
 
 -- the scope of an instance behind these items, at their place
-pub behind_items : (part : Part) (context : Context) (scope : Scope) (before after : List ItemTree) → lower_names part context ≡ Ok scope → before ++ after ≡ context.unit.items →
+pub behind_items : (part : PartialDesign) (context : Context) (scope : Scope) (before after : List ItemTree) → lower_names part context ≡ Ok scope → before ++ after ≡ context.unit.items →
     IsAt (place_behind context.unit before) (at scope (scope.known + length (flat_map symbols_by before)))
 behind_items part context scope before after is items =
     stands_at context.unit before after (at scope (scope.known + length (flat_map symbols_by before))) (stands_behind context.unit [] before after scope items refl (names_stand part context scope is))
 
 module _ (modules : SourceTree) where
-  answered_at : (depth levels : ℕ) (part : Part) (context : Context) (all : Part) (one : Instance) → elaborate_instance levels modules part context ≡ Ok all → StandsBelow modules depth (instance_at context) one → AnsweredAt modules one
+  answered_at : (depth levels : ℕ) (part : PartialDesign) (context : Context) (all : PartialDesign) (one : Instance) → elaborate_instance levels modules part context ≡ Ok all → StandsBelow modules depth (instance_at context) one → AnsweredAt modules one
   answered_at zero levels part context all one is stands = record { levels = levels; part = part; context = context; all = all; at = stands; is = is }
   answered_at (suc depth) zero part context all one is stands = absurd cc
   answered_at (suc depth) (suc levels) part context all one is (child, inside, stands) =
@@ -66,12 +66,12 @@ module _ (modules : SourceTree) where
 
   module _ (r : UseRule) where
     -- what an instance that was elaborated uses fits
-    fitting : (levels : ℕ) (part : Part) (context : Context) (all : Part) (outside : Place) → IsAt outside context.overrides.scope → elaborate_instance levels modules part context ≡ Ok all → all_fit r.fits (used_at outside context) ≡ true
+    fitting : (levels : ℕ) (part : PartialDesign) (context : Context) (all : PartialDesign) (outside : Place) → IsAt outside context.overrides.scope → elaborate_instance levels modules part context ≡ Ok all → all_fit r.fits (used_at outside context) ≡ true
     fitting zero part context all outside h is = absurd cc
     fitting (suc levels) part context all outside h is = own_fits r part context outside h modules (opened_ok modules levels part context all is).0
 
     -- and so does what those use that its items list
-    fitting_listed : (levels : ℕ) (part : Part) (context : Context) (all : Part) → elaborate_instance levels modules part context ≡ Ok all →
+    fitting_listed : (levels : ℕ) (part : PartialDesign) (context : Context) (all : PartialDesign) → elaborate_instance levels modules part context ≡ Ok all →
         (before : List ItemTree) (name : Word) (overrides : Option ConnectionsTree) (list : List InstanceTree) (after : List ItemTree) (child : ModuleTree) (made : InstanceTree) →
         before ++ instances name overrides list ∷ after ≡ context.unit.items → module_of modules name.letters ≡ Some child → Contains list made →
         all_fit r.fits (used_by_listed (instance_at context) before overrides child made) ≡ true
@@ -142,7 +142,7 @@ module _ (fits : Place → Use → Bool) (modules : SourceTree) where
   }
 
   -- or one below it
-  pub deeper : (part : Part) (context : Context) (own : Own modules part context) (c : Instantiation) (m : MadeBy modules own.scope.known context.unit.items c) → Contains own.children c →
+  pub deeper : (part : PartialDesign) (context : Context) (own : Own modules part context) (c : Instantiation) (m : MadeBy modules own.scope.known context.unit.items c) → Contains own.children c →
       (all_fit fits (used_at (place_behind context.unit m.before) (child_context own.scope context c)) ≡ false) ⊎ MisusesBelow fits modules (instance_at (child_context own.scope context c)) →
       MisusesBelow fits modules (instance_at context)
   deeper part context own c m inside (inl misuses) = here context own.scope.known c m misuses
@@ -152,7 +152,7 @@ module _ (fits : Place → Use → Bool) (modules : SourceTree) where
       (contains_mapped (instance_of context.path) c own.children inside)) u
 
 -- where it was made its names are those of its place
-pub around_made : (modules : SourceTree) (part : Part) (context : Context) (own : Own modules part context) (c : Instantiation) (m : MadeBy modules own.scope.known context.unit.items c) → IsAt (place_behind context.unit m.before) (at own.scope c.known)
+pub around_made : (modules : SourceTree) (part : PartialDesign) (context : Context) (own : Own modules part context) (c : Instantiation) (m : MadeBy modules own.scope.known context.unit.items c) → IsAt (place_behind context.unit m.before) (at own.scope c.known)
 around_made modules part context own c m =
     subst (λ (x : Instantiation). IsAt (place_behind context.unit m.before) (at own.scope x.known)) m.is
     (behind_items part context own.scope m.before (instances m.name m.overrides m.list ∷ m.after) own.names_are m.inside)
@@ -161,14 +161,14 @@ module _ (r : UseRule) (modules : SourceTree) (fault : ElabFault) (rule : fault.
   not_too_deep : r.rule ≡ Depth → ⊥
   not_too_deep same = true≢false (sym r.is_asked ∙ ap r.question.asked same ∙ r.no_depth)
 
-  told_in : (levels : ℕ) (part : Part) (context : Context) (outside : Place) → IsAt outside context.overrides.scope → elaborate_instance levels modules part context ≡ Err fault →
+  told_in : (levels : ℕ) (part : PartialDesign) (context : Context) (outside : Place) → IsAt outside context.overrides.scope → elaborate_instance levels modules part context ≡ Err fault →
       (all_fit r.fits (used_at outside context) ≡ false) ⊎ MisusesBelow r.fits modules (instance_at context)
   told_in zero part context outside h is =
       let same : fault_at Depth (Some context.name) ≡ fault = cc in absurd (not_too_deep (sym rule ∙ sym (ap (λ (f : ElabFault). f.rule) same)))
   told_in (suc levels) part context outside h is = by (opened_err modules levels part context fault is) (λ before next inner of_inner. told_in levels before next inner of_inner)
     where
       by : OwnFault modules part context fault ⊎ ((own : Own modules part context) × (below modules levels part context own.scope own.children own.whole ≡ Err fault)) →
-          ((before : Part) (next : Context) (inner : Place) → IsAt inner next.overrides.scope → elaborate_instance levels modules before next ≡ Err fault →
+          ((before : PartialDesign) (next : Context) (inner : Place) → IsAt inner next.overrides.scope → elaborate_instance levels modules before next ≡ Err fault →
           (all_fit r.fits (used_at inner next) ≡ false) ⊎ MisusesBelow r.fits modules (instance_at next)) →
           (all_fit r.fits (used_at outside context) ≡ false) ⊎ MisusesBelow r.fits modules (instance_at context)
       by (inl own) rest = inl (own_misuses r part context outside h modules fault rule own)
@@ -180,11 +180,11 @@ module _ (r : UseRule) (modules : SourceTree) (fault : ElabFault) (rule : fault.
 -- ---- a text
 
 module _ (r : UseRule) (modules : SourceTree) (m : ModuleTree) where
-  top_fits : (all : Part) → elaborate_top modules m ≡ Ok all → all_fit r.fits (used_in_instance m no_place [] [] m.name.letters) ≡ true
+  top_fits : (all : PartialDesign) → elaborate_top modules m ≡ Ok all → all_fit r.fits (used_in_instance m no_place [] [] m.name.letters) ≡ true
   unfolding elaborate_top
   top_fits all is = fitting modules r 16 nothing (top_context m) all no_place nowhere_is is
 
-  top_answered : (all : Part) (depth : ℕ) (one : Instance) → elaborate_top modules m ≡ Ok all → StandsBelow modules depth (top_instance m) one → AnsweredAt modules one
+  top_answered : (all : PartialDesign) (depth : ℕ) (one : Instance) → elaborate_top modules m ≡ Ok all → StandsBelow modules depth (top_instance m) one → AnsweredAt modules one
   unfolding elaborate_top
   top_answered all depth one is stands = answered_at modules depth 16 nothing (top_context m) all one is stands
 

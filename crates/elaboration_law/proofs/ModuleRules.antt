@@ -24,7 +24,7 @@ use Rattle.velab_declaration.specs.Parameters.{Overrides, Base, lower_type, lowe
 use Rattle.velab_declaration.specs.Variables.{port_names, declared_names, lower_kind, lower_declaration, lower_variables, same_bounds, lower_again, lower_port, lower_ports, port_scope}
 use Rattle.velab_process.specs.Connections.{lower_joins}
 use Rattle.velab_process.specs.Processes.{lower_items}
-use Rattle.vhierarchy.specs.Instances.{unless_word, Instantiation, instantiation_by, lower_instance, lower_list, named_again, lower_instances_of, lower_instances_by, lower_instances, Part, Context, base_of, lower_names, lower_own_processes, with_own, few_enough, lower_own_variables, lower_own, has_room}
+use Rattle.vhierarchy.specs.Instances.{unless_word, Instantiation, instantiation_by, lower_instance, lower_list, named_again, lower_instances_of, lower_instances_by, lower_instances, PartialDesign, Context, base_of, lower_names, lower_own_processes, with_own, few_enough, lower_own_variables, lower_own, has_room}
 use Rattle.elaboration_law.proofs.ToldLemmas.{Tells, is_local, is_of_connections, local_connections, wider, then_tells, required_tells, provided_tells, barring_tells}
 use Rattle.elaboration_law.proofs.ExpressionRules.{constant_tells, bounds_tell}
 use Rattle.elaboration_law.proofs.StatementRules.{items_tell, joins_tell}
@@ -202,7 +202,7 @@ scope_tells base m =
     then_tells is_of_names (add_symbols base.overrides valueless (symbols_in_head m.parameters)) _ (symbols_tell base.overrides valueless (symbols_in_head m.parameters)) (λ head.
     then_tells is_of_names (add_symbols base.overrides head (flat_map symbols_by m.items)) _ (symbols_tell base.overrides head (flat_map symbols_by m.items)) (λ whole. tt)))
 
-pub names_tell : (part : Part) (context : Context) → Tells is_of_names (lower_names part context)
+pub names_tell : (part : PartialDesign) (context : Context) → Tells is_of_names (lower_names part context)
 names_tell part context =
     let many = nat_le (length part.variables + length (declared_names context.unit)) 1024 in
     let inner = item_scope (base_of part context) context.unit in
@@ -292,18 +292,18 @@ module _ (context : Context) (ports : List Port) (scope : Scope) where
       then_tells is_local (lower_ports path (port_scope context.unit scope) ports) _ (ports_tell path (port_scope context.unit scope) ports) (λ front.
       then_tells is_local (lower_variables path scope (own_items context.unit)) _ (variables_tell path scope (own_items context.unit)) (λ others. tt))
 
-  pub own_processes_tell : (part : Part) → Tells is_of_connections (lower_own_processes context ports scope part.table)
+  pub own_processes_tell : (part : PartialDesign) → Tells is_of_connections (lower_own_processes context ports scope part.table)
   own_processes_tell part =
       then_tells is_of_connections (lower_joins context.name context.overrides.scope scope context.connections part.table ports) _
       (joins_tell context.name context.overrides.scope scope context.connections part.table ports) (λ joins.
       then_tells is_of_connections (lower_items scope joins.table (placed_items context.path context.unit)) _ (wider is_local is_of_connections local_connections (lower_items scope joins.table (placed_items context.path context.unit)) (items_tell scope joins.table (placed_items context.path context.unit))) (λ processes. tt))
 
-  pub few_tells : (part : Part) → Tells is_of_own (few_enough context.name part)
+  pub few_tells : (part : PartialDesign) → Tells is_of_own (few_enough context.name part)
   few_tells part =
       provided_tells is_of_own (nat_le (length part.begins) 256) TooMany (Some context.name) (require (nat_le (length part.scopes) 1025) TooMany (Some context.name) part) refl
       (required_tells is_of_own (nat_le (length part.scopes) 1025) TooMany (Some context.name) part refl)
 
-  pub own_tells : (part : Part) → Tells is_of_own (lower_own context ports scope part)
+  pub own_tells : (part : PartialDesign) → Tells is_of_own (lower_own context ports scope part)
   own_tells part =
       then_tells is_of_own (lower_own_variables context ports scope) _
       (wider is_local is_of_own local_own (lower_own_variables context ports scope) own_variables_tell) (λ variables.

@@ -17,7 +17,7 @@ use Rattle.velab_expr.specs.declared.fault.Rule.TheVariants.{Doubled}
 use Rattle.velab_expr.specs.declared.fault.ElabFault.{ElabFault}
 use Rattle.velab_expr.specs.Rules.{broken_if}
 use Rattle.velab_declaration.specs.ActionFlaws.{table_fault}
-use Rattle.vhierarchy.specs.Instances.{lower_own, Part, Context, scope_of, variable_paths, scope_paths, broken_selection, broken_paths, broken_table, broken_design, elaborate_top, elaborated}
+use Rattle.vhierarchy.specs.Instances.{lower_own, PartialDesign, Context, scope_of, variable_paths, scope_paths, broken_selection, broken_paths, broken_table, broken_design, elaborate_top, elaborated}
 use Rattle.elaboration_law.specs.Hierarchy.{Instance, StandsBelow, StandsAt, top_instance, instances_from}
 use Rattle.elaboration_law.specs.Laws.{IsMeant}
 use Rattle.elaboration_law.specs.Doubles.{names_in_module, variable_paths_in, path_in, IsDeclaredTwice, module_twice, port_twice, block_twice, name_twice, head_twice, variable_twice, path_twice}
@@ -81,7 +81,7 @@ if_some false rule word fault is = absurd cc
 
 module _ (modules : SourceTree) (top : Option Text) where
   -- its paths are those of the text
-  module _ (unit : ModuleTree) (part : Part) (ok : elaborate_top modules unit ≡ Ok part) where
+  module _ (unit : ModuleTree) (part : PartialDesign) (ok : elaborate_top modules unit ≡ Ok part) where
     pub variables_are : variable_paths part ≡ flat_map variable_paths_in (instances_from 16 modules (top_instance unit))
     variables_are = top_gathered unit.name.letters modules (λ (a b : List Text). a ++ b) variable_paths (flat_map variable_paths_in) (variables_gather unit.name.letters modules) unit part refl ok
 
@@ -122,7 +122,7 @@ module _ (modules : SourceTree) (top : Option Text) where
 
   -- ---- the law
 
-  own_told : (fault : ElabFault) (unit : ModuleTree) (depth : ℕ) (part : Part) (context : Context) → top_of modules top ≡ Some unit → fault.rule ≡ Doubled → StandsBelow modules depth (top_instance unit) (instance_at context) →
+  own_told : (fault : ElabFault) (unit : ModuleTree) (depth : ℕ) (part : PartialDesign) (context : Context) → top_of modules top ≡ Some unit → fault.rule ≡ Doubled → StandsBelow modules depth (top_instance unit) (instance_at context) →
       OwnFault modules part context fault → IsDeclaredTwice modules top
   own_told fault unit depth part context is_top rule stands (in_names err) = name_twice depth (instance_at context) (unit, is_top, stands) (names_twice part context fault rule err)
   own_told fault unit depth part context is_top rule stands (in_instances scope names err) =

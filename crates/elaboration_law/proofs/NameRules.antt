@@ -19,7 +19,7 @@ use Rattle.velab_expr.specs.Scopes.{Scope, at}
 use Rattle.velab_expr.specs.Symbols.{Symbol, name_in, symbols_in_head, symbols_by, valueless_by}
 use Rattle.velab_declaration.specs.Parameters.{Overrides, Base, lower_meaning, with_meaning, add_symbol, add_symbols, first_scope, item_scope}
 use Rattle.velab_declaration.specs.Variables.{port_names, declared_names}
-use Rattle.vhierarchy.specs.Instances.{unless_word, Instantiation, lower_list, named_again, lower_instances_of, lower_instances, Part, Context, base_of, lower_names, has_room}
+use Rattle.vhierarchy.specs.Instances.{unless_word, Instantiation, lower_list, named_again, lower_instances_of, lower_instances, PartialDesign, Context, base_of, lower_names, has_room}
 use Rattle.elaboration_law.specs.Doubles.{other_names, names_in_module, has_head_twice}
 use Rattle.elaboration_law.proofs.ToldLemmas.{is_of_connections, untold}
 use Rattle.elaboration_law.proofs.ModuleRules.{is_of_meaning, meaning_tells, list_tells}
@@ -164,7 +164,7 @@ module _ (base : Base) (m : ModuleTree) where
     scope_twice is = sym (ap has_double in_groups) ∙ first (then_err (add_symbols base.overrides (first_scope base m) valueless)
         (λ s. add_symbols base.overrides s head >>= λ h. add_symbols base.overrides h whole >>= λ w. Ok (at w h.known)) fault is)
 
-module _ (part : Part) (context : Context) where
+module _ (part : PartialDesign) (context : Context) where
   abbrev counted : Result Scope ElabFault
   counted = answer_if (has_room part context) TooMany (Some context.name) (item_scope (base_of part context) context.unit)
 

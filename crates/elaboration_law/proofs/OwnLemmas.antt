@@ -17,12 +17,12 @@ use Rattle.velab_expr.specs.Symbols.{behind_item}
 use Rattle.velab_declaration.specs.declared.variable.Form.{Form}
 use Rattle.velab_declaration.specs.Variables.{Declaration, all_declared, declared_as, declarations_of, variable_in, variables_in, variables_as, port_form, lower_kind, lower_again, port_scope, lower_declaration, lower_variables, lower_port, lower_ports, declared_names, port_names, declarations}
 use Rattle.velab_process.specs.Processes.{Processes}
-use Rattle.vhierarchy.specs.Instances.{lower_own, lower_own_variables, lower_own_processes, with_own, few_enough, scope_of, Part, Context}
+use Rattle.vhierarchy.specs.Instances.{lower_own, lower_own_variables, lower_own_processes, with_own, few_enough, scope_of, PartialDesign, Context}
 use Rattle.elaboration_law.proofs.StepLemmas.{same_value, then_ok, then_err, provided_ok, required_ok}
 use Rattle.elaboration_law.proofs.HierarchyLemmas.{Own}
 
 -- the steps behind the names and the instances
-pub record OwnSteps (modules : SourceTree) (part : Part) (context : Context) (own : Own modules part context) : Type 0 where
+pub record OwnSteps (modules : SourceTree) (part : PartialDesign) (context : Context) (own : Own modules part context) : Type 0 where
   pub variables_made : List Variable
   pub processes : Processes
   pub ports_are : List Variable
@@ -35,7 +35,7 @@ pub record OwnSteps (modules : SourceTree) (part : Part) (context : Context) (ow
   pub few_instances : nat_le (length (part.scopes ++ scope_of context own.scope.variables ∷ [])) 1025 ≡ true
   pub whole_is : with_own context own.scope part variables_made processes ≡ own.whole
 
-module _ (modules : SourceTree) (part : Part) (context : Context) (own : Own modules part context) where
+module _ (modules : SourceTree) (part : PartialDesign) (context : Context) (own : Own modules part context) where
   abbrev ports : List Port
   ports = ports_of context.unit
 
@@ -123,7 +123,7 @@ module _ (path : Text) where
       ∙ sym (ap (map (dotted path)) (map-append (λ (d : Declaration). d.name) (declarations_of item) rest)
       ∙ map-append (dotted path) (map (λ (d : Declaration). d.name) (declarations_of item)) (map (λ (d : Declaration). d.name) rest))
 
-module _ (modules : SourceTree) (part : Part) (context : Context) (own : Own modules part context) where
+module _ (modules : SourceTree) (part : PartialDesign) (context : Context) (own : Own modules part context) where
   pub own_named : (let s = own_steps modules part context own in names s.variables_made ≡ map (dotted context.path) (declared_names context.unit))
   own_named =
       let s = own_steps modules part context own in
@@ -136,14 +136,14 @@ module _ (modules : SourceTree) (part : Part) (context : Context) (own : Own mod
 -- ---- where its own tells a fault
 
 module _ (context : Context) (scope : Scope) where
-  pub data OwnTold (part : Part) (fault : ElabFault) : Type 0 where
+  pub data OwnTold (part : PartialDesign) (fault : ElabFault) : Type 0 where
     in_variables : lower_own_variables context (ports_of context.unit) scope ≡ Err fault → OwnTold part fault
     in_processes : lower_own_processes context (ports_of context.unit) scope part.table ≡ Err fault → OwnTold part fault
     too_many : (vs : List Variable) (processes : Processes) → lower_own_processes context (ports_of context.unit) scope part.table ≡ Ok processes →
         few_enough context.name (with_own context scope part vs processes) ≡ Err fault → OwnTold part fault
 
-  module _ (part : Part) (fault : ElabFault) where
-    abbrev behind_variables : List Variable → Result Part ElabFault
+  module _ (part : PartialDesign) (fault : ElabFault) where
+    abbrev behind_variables : List Variable → Result PartialDesign ElabFault
     behind_variables vs = lower_own_processes context (ports_of context.unit) scope part.table >>= λ processes. few_enough context.name (with_own context scope part vs processes)
 
     told_behind : (vs : List Variable) →

@@ -18,7 +18,7 @@ use Rattle.velab_declaration.specs.Parameters.{Overrides, Base, lower_type, para
 use Rattle.velab_declaration.specs.Variables.{Declaration, port_declaration, declarations, port_names, declared_names}
 use Rattle.vmodules.specs.Ports.{Port, ports_of, port_values}
 use Rattle.velab_process.proofs.ProcessLemmas.{values_placed}
-use Rattle.vhierarchy.specs.Instances.{Part, Context, base_of, lower_names, no_scope, has_room}
+use Rattle.vhierarchy.specs.Instances.{PartialDesign, Context, base_of, lower_names, no_scope, has_room}
 use Rattle.elaboration_law.specs.Doubles.{names_in_module}
 use Rattle.elaboration_law.specs.Places.{Place, Thing, a_variable, a_parameter, an_event, an_instance, no_place, variables_of, symbols_of, thing_by, things_in, names_behind, place_behind, place_after}
 use Rattle.elaboration_law.proofs.StepLemmas.{same_value, then_ok, required_ok, provided_ok, barring_ok}
@@ -496,7 +496,7 @@ module _ (base : Base) (m : ModuleTree) where
         known = omega (arith, long, two_whole, two_known, two_count, three_count);
       })
 
-module _ (part : Part) (context : Context) where
+module _ (part : PartialDesign) (context : Context) where
   pub item_scope_of : (scope : Scope) → lower_names part context ≡ Ok scope → item_scope (base_of part context) context.unit ≡ Ok scope
   item_scope_of scope is =
       let counted = answer_if (has_room part context) TooMany (Some context.name) (item_scope (base_of part context) context.unit) in

@@ -32,7 +32,7 @@ use Rattle.velab_expr.specs.Written.{lower_net_target, target_of}
 use Rattle.velab_process.specs.Statements.{Table}
 use Rattle.velab_process.specs.Processes.{Processes, process_trees_by, lower_processes, lower_items, with_begins_before}
 use Rattle.velab_process.specs.Connections.{lower_input, lower_output, lower_connection, lower_join, lower_joins}
-use Rattle.vhierarchy.specs.Instances.{lower_own_processes, Part, Context}
+use Rattle.vhierarchy.specs.Instances.{lower_own_processes, PartialDesign, Context}
 use Rattle.elaboration_law.specs.Uses.{Use, Read, Driven, use_of, used_in, used_in_range, used_in_target_by}
 use Rattle.elaboration_law.specs.Places.{Place, a_variable, UseAt, at_place, all_fit, variables_of, symbols_of, thing_by, place_behind, place_after, used_in_type, used_again, port_place, used_outside, used_by_output, used_at_port, used_if_connected, used_in_declaration, used_in_processes, used_in_placed, used_in_symbol, used_in_symbols, used_in_port, used_in_connection, used_by_items, used_by_own_processes, used_in_instance}
 use Rattle.elaboration_law.specs.Kinds.{is_ranged}
@@ -327,7 +327,7 @@ module _ (path : Text) where
       ∙ (λ i. item_shaped scope item front.0 front.1 i ++ variables_shaped (behind_item scope item) more others.0 others.1 i)
       ∙ sym (map-append declared_shape (declarations_of item) (flat_map declarations_of more))
 
-module _ (modules : SourceTree) (part : Part) (context : Context) (own : Own modules part context) where
+module _ (modules : SourceTree) (part : PartialDesign) (context : Context) (own : Own modules part context) where
   abbrev made : List Variable
   made = (own_steps modules part context own).variables_made
 

@@ -14,7 +14,7 @@ use Rattle.vvalue.specs.OperandRules.{operand_rule, unary_operand_rule}
 use Rattle.vvalue.specs.declared.operand_rule.OperandRule.{OperandRule}
 use Rattle.vvalue.specs.declared.operand_rule.OperandRule.TheVariants.{ContextDetermined, MaxSized, SelfDetermined, LeftContextDetermined}
 use Rattle.vvalue.specs.declared.operand_rule.UnaryOperandRule.{UnaryOperandRule}
-use Rattle.vvalue.specs.declared.operand_rule.UnaryOperandRule.TheVariants.{SameContext, SelfReduced, SelfNegated}
+use Rattle.vvalue.specs.declared.operand_rule.UnaryOperandRule.TheVariants.{InContext, Reduced, LogicallyNegated}
 use Rattle.vdesign.specs.declared.expression.Bounds.{Bounds}
 use Rattle.vvalue.proofs.SelectLemmas.{part_length}
 use Rattle.velab_expr.specs.Literals as literals
@@ -39,9 +39,9 @@ binary_sized (SelfDetermined operator) m n h k = record { some = omega arith; fe
 binary_sized (LeftContextDetermined operator) m n h k = h
 
 unary_sized : (rule : UnaryOperandRule) (n : ℕ) → IsSize n → IsSize (unary_size rule n)
-unary_sized (SameContext operator) n h = h
-unary_sized (SelfReduced operator) n h = record { some = omega arith; few = omega arith }
-unary_sized SelfNegated n h = record { some = omega arith; few = omega arith }
+unary_sized (InContext operator) n h = h
+unary_sized (Reduced operator) n h = record { some = omega arith; few = omega arith }
+unary_sized LogicallyNegated n h = record { some = omega arith; few = omega arith }
 
 max_sized : (m n : ℕ) → IsSize m → IsSize n → IsSize (max m n)
 max_sized m n h k = record { some = omega (arith, h.some, k.some); few = omega (arith, h.few, k.few) }

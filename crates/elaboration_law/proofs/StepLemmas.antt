@@ -7,7 +7,7 @@ use Rattle.velab_expr.specs.declared.fault.Rule.TheVariants.{TooMany}
 use Rattle.velab_expr.specs.declared.fault.ElabFault.{ElabFault}
 use Rattle.velab_expr.specs.Rules.{fault_at}
 use Rattle.velab_expr.specs.Answers.{◌>>=◌, answer_if, require, value_or_fault}
-use Rattle.vhierarchy.specs.Instances.{unless_word, Part, few_enough}
+use Rattle.vhierarchy.specs.Instances.{unless_word, PartialDesign, few_enough}
 
 module _ {A : Type 0} where
   pub same_value : (x y : A) → (let one : Result A ElabFault = Ok x in one ≡ Ok y) → x ≡ y
@@ -92,7 +92,7 @@ module _ {A : Type 0} where
 -- ---- counts
 
 -- too many processes, or too many instances
-pub few_err : (name : Word) (part : Part) (fault : ElabFault) → few_enough name part ≡ Err fault → ((nat_le (length part.begins) 256 ≡ false) ⊎ (nat_le (length part.scopes) 1025 ≡ false)) × (fault.rule ≡ TooMany)
+pub few_err : (name : Word) (part : PartialDesign) (fault : ElabFault) → few_enough name part ≡ Err fault → ((nat_le (length part.begins) 256 ≡ false) ⊎ (nat_le (length part.scopes) 1025 ≡ false)) × (fault.rule ≡ TooMany)
 few_err name part fault is = by (provided_err (nat_le (length part.begins) 256) TooMany (Some name) (require (nat_le (length part.scopes) 1025) TooMany (Some name) part) fault is)
   where
     by : ((nat_le (length part.begins) 256 ≡ false) × (fault.rule ≡ TooMany)) ⊎ ((nat_le (length part.begins) 256 ≡ true) × (require (nat_le (length part.scopes) 1025) TooMany (Some name) part ≡ Err fault)) →

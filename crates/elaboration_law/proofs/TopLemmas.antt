@@ -10,7 +10,7 @@ use Rattle.vmodules.specs.Hierarchy.{module_of, top_of}
 use Rattle.vmodules.specs.Ports.{ports_of}
 use Rattle.velab_expr.specs.declared.fault.Rule.TheVariants.{Top, Doubled, TooMany}
 use Rattle.velab_expr.specs.declared.fault.ElabFault.{ElabFault}
-use Rattle.vhierarchy.specs.Instances.{unless_word, Instantiation, lower_list, named_again, lower_instances_of, lower_instances, lower_own, lower_names, Part, Context, broken_design, elaborated}
+use Rattle.vhierarchy.specs.Instances.{unless_word, Instantiation, lower_list, named_again, lower_instances_of, lower_instances, lower_own, lower_names, PartialDesign, Context, broken_design, elaborated}
 use Rattle.elaboration_law.specs.Hierarchy.{Instance, StandsBelow, top_instance}
 use Rattle.elaboration_law.specs.Laws.{IsMeant}
 use Rattle.elaboration_law.specs.Tops.{LacksModule, no_top, no_module}
@@ -50,7 +50,7 @@ module _ (modules : SourceTree) where
         by (inr (few, err)) = again (barring_err (named_again m) Doubled (lower_list m known overrides list) fault err)
 
 module _ (modules : SourceTree) (top : Option Text) where
-  own_told : (fault : ElabFault) (unit : ModuleTree) (depth : ℕ) (part : Part) (context : Context) → top_of modules top ≡ Some unit → fault.rule ≡ Top → StandsBelow modules depth (top_instance unit) (instance_at context) →
+  own_told : (fault : ElabFault) (unit : ModuleTree) (depth : ℕ) (part : PartialDesign) (context : Context) → top_of modules top ≡ Some unit → fault.rule ≡ Top → StandsBelow modules depth (top_instance unit) (instance_at context) →
       OwnFault modules part context fault → LacksModule modules top
   own_told fault unit depth part context is_top rule stands (in_names err) = absurd (untold is_of_names (lower_names part context) fault Top (names_tell part context) refl err rule)
   own_told fault unit depth part context is_top rule stands (in_instances scope names err) =

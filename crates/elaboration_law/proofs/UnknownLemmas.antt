@@ -16,7 +16,7 @@ use Rattle.velab_expr.specs.declared.fault.ElabFault.{ElabFault}
 use Rattle.velab_expr.specs.Rules.{broken_if}
 use Rattle.velab_expr.specs.Scopes.{Scope}
 use Rattle.velab_declaration.specs.ActionFlaws.{table_fault}
-use Rattle.vhierarchy.specs.Instances.{base_of, Part, variable_paths, scope_paths, broken_selection, broken_paths, broken_table, broken_design, elaborate_top, elaborated}
+use Rattle.vhierarchy.specs.Instances.{base_of, PartialDesign, variable_paths, scope_paths, broken_selection, broken_paths, broken_table, broken_design, elaborate_top, elaborated}
 use Rattle.elaboration_law.specs.Laws.{IsMeant}
 use Rattle.elaboration_law.specs.Selected.{paths_by_item, paths_in_instance}
 use Rattle.elaboration_law.specs.Unknowns.{all_below, is_all_there, HasUnknown, of_name, of_port, of_path}
@@ -37,7 +37,7 @@ use Rattle.elaboration_law.proofs.PathUses.{JudgesIf, is_something, path_judged,
 
 -- ---- the paths of a design
 
-dumped_of : Part → List Text
+dumped_of : PartialDesign → List Text
 dumped_of part = dumped part.table
 
 dumps_gather : (top : Text) (modules : SourceTree) → Gathers top modules (λ (a b : List Text). a ++ b) dumped_of (flat_map (paths_in_instance top))
@@ -55,7 +55,7 @@ dumps_gather top modules = record {
 }
 
 module _ (modules : SourceTree) (top : Option Text) where
-  module _ (unit : ModuleTree) (part : Part) (ok : elaborate_top modules unit ≡ Ok part) where
+  module _ (unit : ModuleTree) (part : PartialDesign) (ok : elaborate_top modules unit ≡ Ok part) where
     pub dumped_are : dumped part.table ≡ flat_map (paths_in_instance unit.name.letters) (all_below modules unit)
     unfolding dumped_of
     dumped_are = top_gathered unit.name.letters modules (λ (a b : List Text). a ++ b) dumped_of (flat_map (paths_in_instance unit.name.letters)) (dumps_gather unit.name.letters modules) unit part refl ok

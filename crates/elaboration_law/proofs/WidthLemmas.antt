@@ -30,7 +30,7 @@ use Rattle.velab_declaration.specs.Right.{writes_rightly, kind_rule}
 use Rattle.velab_declaration.specs.ActionFlaws.{blank_environment, first_flaw, action_flaw, flaw_rule, table_fault}
 use Rattle.velab_declaration.specs.Variables.{port_names}
 use Rattle.velab_declaration.specs.Drives.{drivers_fault}
-use Rattle.vhierarchy.specs.Instances.{Instantiation, instantiation_by, lower_instance, lower_list, named_again, lower_instances_of, lower_instances_by, lower_instances, Part, Context, lower_own_variables, lower_own_processes, with_own, few_enough, child_context, each, elaborate_instance, nothing, no_scope, top_context, elaborate_top, broken_paths, broken_table, broken_design, elaborated}
+use Rattle.vhierarchy.specs.Instances.{Instantiation, instantiation_by, lower_instance, lower_list, named_again, lower_instances_of, lower_instances_by, lower_instances, PartialDesign, Context, lower_own_variables, lower_own_processes, with_own, few_enough, child_context, each, elaborate_instance, nothing, no_scope, top_context, elaborate_top, broken_paths, broken_table, broken_design, elaborated}
 use Rattle.elaboration_law.specs.Laws.{IsMeant}
 use Rattle.elaboration_law.specs.Widths.{Worth}
 use Rattle.elaboration_law.specs.Worths.{nothing_known, are_set_in, are_ranged}
@@ -99,7 +99,7 @@ module _ (named : Text → Worth) where
 -- ---- the hierarchy
 
 -- what was added to a part: it has no flaw only where this holds, and where a size is told it doesn't
-abbrev Grows : Part → Bool → Result Part ElabFault → Type 0
+abbrev Grows : PartialDesign → Bool → Result PartialDesign ElabFault → Type 0
 Grows part holds (Ok all) = (more : List Variable) × (part.variables ++ more ≡ all.variables) × Carries all holds
 Grows part holds (Err fault) = is_width fault.rule ≡ true → holds ≡ false
 
@@ -109,22 +109,22 @@ module _ (modules : SourceTree) where
 
   -- of each instance
   abbrev AllGrow : ℕ → Type 0
-  AllGrow levels = (part : Part) (context : Context) (outside : Text → Worth) (t : Bool) → IsRound part.variables context.overrides.scope outside → Carries part t →
+  AllGrow levels = (part : PartialDesign) (context : Context) (outside : Text → Worth) (t : Bool) → IsRound part.variables context.overrides.scope outside → Carries part t →
       Grows part (t && right_below levels (instantiated outside context)) (elaborate_instance levels modules part context)
 
   module _ (levels : ℕ) (rest : AllGrow levels) (scope : Scope) (context : Context) (named : Text → Worth) where
-    abbrev step : Part → Instantiation → Result Part ElabFault
+    abbrev step : PartialDesign → Instantiation → Result PartialDesign ElabFault
     step so_far c = elaborate_instance levels modules so_far (child_context scope context c)
 
     abbrev all_below : List Instantiation → Bool
     all_below list = list_all has_right_widths (flat_map (instantiated_below levels modules) (map (made_as named) list))
 
-    further : (part next : Part) (holds : Bool) (a : Result Part ElabFault) → (more : List Variable) → part.variables ++ more ≡ next.variables → Grows next holds a → Grows part holds a
+    further : (part next : PartialDesign) (holds : Bool) (a : Result PartialDesign ElabFault) → (more : List Variable) → part.variables ++ more ≡ next.variables → Grows next holds a → Grows part holds a
     further part next holds (Ok all) more is h =
         (more ++ h.0, sym (append_assoc part.variables more h.0) ∙ ap (λ (l : List Variable). l ++ h.0) is ∙ h.1, h.2)
     further part next holds (Err fault) more is h = h
 
-    each_grow : (list : List Instantiation) (part : Part) (t : Bool) → IsRound part.variables scope named → Carries part t → Grows part (t && all_below list) (each step part list)
+    each_grow : (list : List Instantiation) (part : PartialDesign) (t : Bool) → IsRound part.variables scope named → Carries part t → Grows part (t && all_below list) (each step part list)
     each_grow [] part true round h = ([], append-nil part.variables, h)
     each_grow [] part false round h = ([], append-nil part.variables, h)
     each_grow (c ∷ more) part t round h =
@@ -139,7 +139,7 @@ module _ (modules : SourceTree) where
             ap (λ (b : Bool). t && b) (list_all-append has_right_widths (instantiated_below levels modules (made_as named c)) (flat_map (instantiated_below levels modules) (map (made_as named) more)))
             ∙ sym (and_assoc t here (all_below more))
 
-        by : (a : Result Part ElabFault) → Grows part (t && here) a → ((next : Part) → IsRound next.variables scope named → Carries next (t && here) →
+        by : (a : Result PartialDesign ElabFault) → Grows part (t && here) a → ((next : PartialDesign) → IsRound next.variables scope named → Carries next (t && here) →
             Grows next ((t && here) && all_below more) (each step next more)) →
             Grows part (t && all_below (c ∷ more)) (a >>= λ next. each step next more)
         by (Ok next) g others =
@@ -149,7 +149,7 @@ module _ (modules : SourceTree) where
         by (Err fault) g others = λ e. whole ∙ first_false (t && here) (all_below more) (g e)
 
   -- an instance, where it holds of those in it
-  module _ (levels : ℕ) (rest : AllGrow levels) (part : Part) (context : Context) (outside : Text → Worth) (t : Bool) (round : IsRound part.variables context.overrides.scope outside) (h : Carries part t) where
+  module _ (levels : ℕ) (rest : AllGrow levels) (part : PartialDesign) (context : Context) (outside : Text → Worth) (t : Bool) (round : IsRound part.variables context.overrides.scope outside) (h : Carries part t) where
     abbrev one : Instantiated
     one = instantiated outside context
 
@@ -165,7 +165,7 @@ module _ (modules : SourceTree) where
     -- behind its own steps
     behind : (own : Own modules part context) → Grows part all (below modules levels part context own.scope own.children own.whole)
     behind own =
-        subst (λ (p : Part). Grows part all (below modules levels part context own.scope own.children p)) enough.1
+        subst (λ (p : PartialDesign). Grows part all (below modules levels part context own.scope own.children p)) enough.1
         (subst (λ (b : Bool). Grows part b (below modules levels part context own.scope own.children whole)) same
         (further levels rest own.scope context (worth_in one) part whole ((t && has_right_widths one) && all_below levels rest own.scope context (worth_in one) own.children) (below modules levels part context own.scope own.children whole) made.0 refl
         (each_grow levels rest own.scope context (worth_in one) own.children whole (t && has_right_widths one) (round_here part context outside round own.scope own.names_are made.0 made.1) carries)))
@@ -178,7 +178,7 @@ module _ (modules : SourceTree) where
         processes : (ps : Processes) × (lower_own_processes context (ports_of context.unit) own.scope part.table ≡ Ok ps) × (few_enough context.name (with_own context own.scope part made.0 ps) ≡ Ok own.whole)
         processes = then_ok (lower_own_processes context (ports_of context.unit) own.scope part.table) (λ ps. few_enough context.name (with_own context own.scope part made.0 ps)) own.whole made.2
 
-        whole : Part
+        whole : PartialDesign
         whole = with_own context own.scope part made.0 processes.0
 
         enough : (nat_le (length whole.scopes) 1025 ≡ true) × (whole ≡ own.whole)
@@ -207,7 +207,7 @@ module _ (modules : SourceTree) where
         absurd (true≢false (sym width ∙ subst widths.Quiet err (instances_quiet modules 0 scope.known context.unit.items)))
     of_own fault width (in_own scope children names wanted err) = own_false (own_wrong part context outside round scope names t h fault width err)
 
-    grows : (a : Result Part ElabFault) → elaborate_instance (suc levels) modules part context ≡ a → Grows part all a
+    grows : (a : Result PartialDesign ElabFault) → elaborate_instance (suc levels) modules part context ≡ a → Grows part all a
     grows (Ok p) is = let opened = opened_ok modules levels part context p is in subst (Grows part all) opened.1 (behind opened.0)
     grows (Err fault) is = λ e. told e (opened_err modules levels part context fault is)
       where
@@ -248,7 +248,7 @@ not_of_width (Some f) h = by (is_width f.rule) h
     by true h e = sym h
     by false h e = sym e
 
-module _ (top : Word) (part : Part) (holds : Bool) (carries : Carries part holds) where
+module _ (top : Word) (part : PartialDesign) (holds : Bool) (carries : Carries part holds) where
   design_judged : JudgesIf of_width holds (broken_design top part)
   design_judged =
       or_judged of_width true holds (broken_paths top part) (broken_table top part) (not_of_width (broken_paths top part) (broken_paths_tell none_of_width refl refl top part refl))
@@ -295,7 +295,7 @@ unfolding elaborate_top
 top_grows modules m = all_grow modules 16 nothing (top_context m) nothing_known true nowhere_round (λ rest. refl)
 
 module _ (modules : SourceTree) (top : Option Text) where
-  design_right : (unit : ModuleTree) (part : Part) → elaborate_top modules unit ≡ Ok part → JudgesIf of_width (all_right modules unit) (broken_design unit.name part)
+  design_right : (unit : ModuleTree) (part : PartialDesign) → elaborate_top modules unit ≡ Ok part → JudgesIf of_width (all_right modules unit) (broken_design unit.name part)
   design_right unit part ok =
       design_judged unit.name part (all_right modules unit) (subst (Grows nothing (all_right modules unit)) ok (top_grows modules unit)).2
 

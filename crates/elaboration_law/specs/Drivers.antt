@@ -4,12 +4,12 @@ use Rattle.vast.specs.Words.{Text}
 use Rattle.vast.specs.NumberedModules.{ModuleTree, SourceTree}
 use Rattle.vmodules.specs.Hierarchy.{top_of}
 use Rattle.velab_declaration.specs.Drives.{Place}
-use Rattle.vhierarchy.specs.Instances.{Part, elaborate_top, driven_in}
+use Rattle.vhierarchy.specs.Instances.{PartialDesign, elaborate_top, driven_in}
 
 -- Continuous assignments (6.1) or port connections (12.3.9.2) of what the text's top is lowered to drive one bit twice.
 pub record HasTwoDrivers (modules : SourceTree) (top : Option Text) : Type 0 where
   pub unit : ModuleTree
-  pub part : Part
+  pub part : PartialDesign
   pub is_top : top_of modules top ≡ Some unit
   pub lowered : elaborate_top modules unit ≡ Ok part
   pub place : Place

@@ -9,12 +9,12 @@ use Rattle.racebook.proofs.ListLemmas.{contains_at}
 use Rattle.race_groups.specs.declared.group.Difference.{Difference}
 use Rattle.race_groups.specs.declared.group.Group.{Group}
 use Rattle.race_groups.specs.Found.{IsLogOf}
-use Rattle.race_groups.specs.Inner.{Adds, IsCaused, IsTraced, Told, Tracing, told_of, tolds_of}
+use Rattle.race_groups.specs.Inner.{Adds, IsCaused, IsTraced, GroupHead, Tracing, group_head, group_heads}
 use Rattle.race_groups.proofs.ListLemmas.{nothing_in, to_map}
 
 -- ---- lists of groups
 
-pub adds_none : (tracing : Tracing) (P : Difference → Type 0) (old new : List Told) → new ≡ old → Adds tracing P old new
+pub adds_none : (tracing : Tracing) (P : Difference → Type 0) (old new : List GroupHead) → new ≡ old → Adds tracing P old new
 adds_none tracing P old new is = record {
   more = [];
   is = is ∙ sym (append-nil old);
@@ -22,7 +22,7 @@ adds_none tracing P old new is = record {
   firsts = λ t has. nothing_in t has;
 }
 
-pub adds_on : (tracing : Tracing) (P : Difference → Type 0) (old mid new : List Told) → Adds tracing P old mid →
+pub adds_on : (tracing : Tracing) (P : Difference → Type 0) (old mid new : List GroupHead) → Adds tracing P old mid →
     Adds tracing P mid new → Adds tracing P old new
 adds_on tracing P old mid new a b = record {
   more = a.more ++ b.more;
@@ -37,7 +37,7 @@ adds_on tracing P old mid new a b = record {
   ];
 }
 
-pub adds_weaker : (tracing : Tracing) (P Q : Difference → Type 0) (old new : List Told) → ((d : Difference) → P d → Q d) →
+pub adds_weaker : (tracing : Tracing) (P Q : Difference → Type 0) (old new : List GroupHead) → ((d : Difference) → P d → Q d) →
     Adds tracing P old new → Adds tracing Q old new
 adds_weaker tracing P Q old new from a = record {
   more = a.more;
@@ -47,43 +47,43 @@ adds_weaker tracing P Q old new from a = record {
       λ t has. from t.first (a.firsts t has);
 }
 
-only : (t u : Told) → Contains (t ∷ []) u → t ≡ u
+only : (t u : GroupHead) → Contains (t ∷ []) u → t ≡ u
 only t u has = elim (Contains-push_cases [] t u has) [
   | inl none ↦ nothing_in u none
   | inr is ↦ is
 ]
 
-pub adds_one : (tracing : Tracing) (P : Difference → Type 0) (old new : List Told) (t : Told) → new ≡ old ++ t ∷ [] → IsCaused tracing t →
+pub adds_one : (tracing : Tracing) (P : Difference → Type 0) (old new : List GroupHead) (t : GroupHead) → new ≡ old ++ t ∷ [] → IsCaused tracing t →
     P t.first → Adds tracing P old new
 adds_one tracing P old new t is caused so = record {
   more = t ∷ [];
   is = is;
   causes = λ u has. subst (IsCaused tracing) (only t u has) caused;
-  firsts = λ u has. subst (λ (v : Told). P v.first) (only t u has) so;
+  firsts = λ u has. subst (λ (v : GroupHead). P v.first) (only t u has) so;
 }
 
 -- a group that was pushed
 pub adds_group : (tracing : Tracing) (difference : Difference) (old new : List Group) (group : Group) (log : List (ℕ × ℕ)) →
     new ≡ old ++ group ∷ [] → group.log ≡ log → IsTraced tracing log group.cause →
-    IsLogOf difference log → group.first ≡ difference → Adds tracing (λ d. d ≡ difference) (tolds_of old) (tolds_of new)
+    IsLogOf difference log → group.first ≡ difference → Adds tracing (λ d. d ≡ difference) (group_heads old) (group_heads new)
 adds_group tracing difference old new group log is log_is caused of first =
-    adds_one tracing (λ d. d ≡ difference) (tolds_of old) (tolds_of new) (told_of group) (ap tolds_of is ∙ map-append told_of old (group ∷ [])) (
+    adds_one tracing (λ d. d ≡ difference) (group_heads old) (group_heads new) (group_head group) (ap group_heads is ∙ map-append group_head old (group ∷ [])) (
       subst (λ (l : List (ℕ × ℕ)). IsTraced tracing l group.cause) (sym log_is) caused,
       subst (λ (d : Difference). IsLogOf d group.log) (sym first) (subst (IsLogOf difference) (sym log_is) of),
     ) first
 
 -- what of a group is told stays, where one is changed elsewhere
-pub told_alike : (groups : List Group) (place : ℕ) (group other : Group) → told_of group ≡ told_of (get_or groups place other) →
-    tolds_of (slice_set groups place group) ≡ tolds_of groups
-told_alike groups place group other same = map-set_same told_of groups place group other same
+pub told_alike : (groups : List Group) (place : ℕ) (group other : Group) → group_head group ≡ group_head (get_or groups place other) →
+    group_heads (slice_set groups place group) ≡ group_heads groups
+told_alike groups place group other same = map-set_same group_head groups place group other same
 
 -- behind others, where causes are traced alike
-pub adds_then : (tracing there : Tracing) (P : Difference → Type 0) (old mid new : List Told) → there ≡ tracing → Adds tracing P old mid →
+pub adds_then : (tracing there : Tracing) (P : Difference → Type 0) (old mid new : List GroupHead) → there ≡ tracing → Adds tracing P old mid →
     Adds there P mid new → Adds tracing P old new
 adds_then tracing there P old mid new is one other = adds_on tracing P old mid new one (subst (λ (x : Tracing). Adds x P mid new) is other)
 
 -- one of these differences
-pub adds_race : {R : Type 0} (tracing there : Tracing) (f : R → Difference) (races : List R) (i : ℕ) (race : R) (old mid new : List Told) →
+pub adds_race : {R : Type 0} (tracing there : Tracing) (f : R → Difference) (races : List R) (i : ℕ) (race : R) (old mid new : List GroupHead) →
     there ≡ tracing → slice_get races i ≡ Some race →
     Adds tracing (Contains (map f races)) old mid → Adds there (λ d. d ≡ f race) mid new → Adds tracing (Contains (map f races)) old new
 adds_race tracing there f races i race old mid new is at one other =

@@ -14,8 +14,8 @@ use Rattle.race_groups.specs.declared.group.Difference.{Difference}
 use Rattle.race_groups.specs.declared.group.Group.{Group}
 use Rattle.race_groups.specs.declared.group.Name.{Name}
 use Rattle.race_groups.specs.Found.{AllSummarize, AreNamedOnce, IsNameIn, IsNameInOne, IsNamedAt, Summarizes, name_of}
-use Rattle.race_groups.specs.Inner.{AreNamedApart, Counts, CountsStill, Follows, IsNamedIn, IsOpened, IsUntouched, NoName, Told, Widens}
-use Rattle.race_groups.specs.Inner.{told_of}
+use Rattle.race_groups.specs.Inner.{AreNamedApart, Counts, CountsStill, Follows, IsNamedIn, IsOpened, IsUntouched, NoName, GroupHead, Widens}
+use Rattle.race_groups.specs.Inner.{group_head}
 use Rattle.race_groups.proofs.ListLemmas.{nothing_in}
 
 -- ---- one after another
@@ -174,12 +174,12 @@ untouched_summary names old new rest same s = record {
   next = same.next ∙ s.next;
   more = same.more ∙ s.more;
   last = λ before other is. same.last ∙ s.last before other is;
-  alone = λ other none is. same.last ∙ s.alone other none (ap (λ (t : Told). name_of t.first) (sym same.told) ∙ is);
+  alone = λ other none is. same.last ∙ s.alone other none (ap (λ (t : GroupHead). name_of t.first) (sym same.told) ∙ is);
 }
 
 -- one group was set, and what it sums up then has in front what it summed up before
 module _ (names : ℕ) (groups : List Group) (place : ℕ) (old new : Group) (at : slice_get groups place ≡ Some old)
-    (same : told_of new ≡ told_of old)
+    (same : group_head new ≡ group_head old)
     (more : List Name) (sums : (rest : List Name) → Summarizes names old rest → Summarizes names new (rest ++ more)) where
   abbrev now : List Group
   now = slice_set groups place new
@@ -201,7 +201,7 @@ module _ (names : ℕ) (groups : List Group) (place : ℕ) (old new : Group) (at
   still_first : (name : Name) (group : Group) → slice_get groups place ≡ Some group → name_of group.first ≡ Some name →
       name_of new.first ≡ Some name
   still_first name group there first =
-      ap (λ (t : Told). name_of t.first) same ∙ ap (λ (g : Group). name_of g.first) (same_Some old group (sym at ∙ there)) ∙ first
+      ap (λ (t : GroupHead). name_of t.first) same ∙ ap (λ (g : Group). name_of g.first) (same_Some old group (sym at ∙ there)) ∙ first
 
   -- what the group had it has still
   has_still : (before : ℕ → List Name) (name : Name) (group : Group) → slice_get groups place ≡ Some group →
@@ -246,7 +246,7 @@ module _ (names : ℕ) (groups : List Group) (place : ℕ) (old new : Group) (at
 
   -- what was the group's first difference before
   was_first : (name : Name) (group : Group) → new ≡ group → name_of group.first ≡ Some name → name_of old.first ≡ Some name
-  was_first name group new_is first = ap (λ (t : Told). name_of t.first) (sym same) ∙ ap (λ (g : Group). name_of g.first) new_is ∙ first
+  was_first name group new_is first = ap (λ (t : GroupHead). name_of t.first) (sym same) ∙ ap (λ (g : Group). name_of g.first) new_is ∙ first
 
   -- what stands there now
   stands_there : (before : ℕ → List Name) (i : ℕ) (name : Name) → i ≡ place → Contains (after before i) name →
@@ -278,7 +278,7 @@ module _ (names : ℕ) (groups : List Group) (place : ℕ) (old new : Group) (at
 
 -- the same of one name more
 module _ (names : ℕ) (groups : List Group) (place : ℕ) (old new : Group) (at : slice_get groups place ≡ Some old)
-    (same : told_of new ≡ told_of old)
+    (same : group_head new ≡ group_head old)
     (name : Name) (sums : (rest : List Name) → Summarizes names old rest → Summarizes names new (rest ++ name ∷ []))
     (before : ℕ → List Name) (fresh : IsNameInOne groups before name → ⊥) (once : AreNamedOnce groups before) where
   abbrev then : List Group
@@ -346,7 +346,7 @@ module _ (names : ℕ) (groups : List Group) (place : ℕ) (old new : Group) (at
   pub set_named_once : AreNamedOnce then rests
   set_named_once = record { once = set_once; not_first = set_not_first }
 
-pub set_counts : (names : ℕ) (groups : List Group) (place : ℕ) (old new : Group) → slice_get groups place ≡ Some old → told_of new ≡ told_of old →
+pub set_counts : (names : ℕ) (groups : List Group) (place : ℕ) (old new : Group) → slice_get groups place ≡ Some old → group_head new ≡ group_head old →
     (name : Name) → ((rest : List Name) → Summarizes names old rest → Summarizes names new (rest ++ name ∷ [])) →
     Counts names (λ n. name ≡ n) groups (slice_set groups place new)
 set_counts names groups place old new at same name sums before summaries = record {
@@ -367,7 +367,7 @@ set_counts names groups place old new at same name sums before summaries = recor
 
 -- what of a group is told stays, whether or not it was followed
 pub followed_told : {E : Type 0} (names : ℕ) (name : Name) (old new : Group) (result : Result ⊤ E) →
-    OnOk result (Follows names name old new) → OnErr result (IsUntouched old new) → told_of new ≡ told_of old
+    OnOk result (Follows names name old new) → OnErr result (IsUntouched old new) → group_head new ≡ group_head old
 followed_told names name old new (Ok u) ok err = ok.told
 followed_told names name old new (Err e) ok err = err.told
 

@@ -47,8 +47,8 @@ use Rattle.race_groups.specs.declared.group.Scope.{Scope}
 use Rattle.race_groups.specs.Found.{AllAreCounted, AllSummarize, EachGroup, EndsAlike, HasFirstDifference, HasItsCause, HasLogOfFirst}
 use Rattle.race_groups.specs.Found.{IsDifference, IsNameInOne, IsClosedFrom, IsInTime, IsTimeOfRun, LacksOnlyNoCause, NoneDiffer, NoneIsCut}
 use Rattle.race_groups.specs.Found.{NoneIsMadeUp, TwoEndsDiffer, TwoRunsDifferIn, name_of}
-use Rattle.race_groups.specs.Inner.{AreGroupsOf, AreTold, CollectsGroups, IsLastSeen, IsShownBy, KeepsGroups, Shape, TellsEnds, Told}
-use Rattle.race_groups.specs.Inner.{Tracing, shape_of, told_of, tolds_of, traced_by}
+use Rattle.race_groups.specs.Inner.{AreGroupsOf, AreTold, CollectsGroups, IsLastSeen, IsShownBy, KeepsGroups, Shape, TellsEnds, GroupHead}
+use Rattle.race_groups.specs.Inner.{Tracing, shape_of, group_head, group_heads, traced_by}
 use Rattle.race_groups.proofs.ListLemmas.{at_most_one, nothing_in, to_map}
 
 abbrev Pair : Type 0
@@ -89,10 +89,10 @@ record IsIn (setting : Setting) (closings : List (Closing MachineState)) (log : 
 
 module _ (setting : Setting) (alike : Alike setting) (all : AllStand setting) (there : RunThere setting) (here : RunHere setting)
     (mark_alike : MarkAlike setting) (wide : HasVariables setting) (ranked : RankIsTime setting)
-    (limits : Limits) (scope : Scope) (groups : List Group) (tolds : List Told) (ends : List (FoundMark MachineState)) (cut : Bool)
+    (limits : Limits) (scope : Scope) (groups : List Group) (heads : List GroupHead) (ends : List (FoundMark MachineState)) (cut : Bool)
     (seen : Option ℕ) (refused : Option NoMemory) (findings : RankedFindings)
     (hands : HandsOn (machine_rules setting) limits (rank_of setting)
-    (AreGroupsOf (tracing_in setting limits) scope groups tolds (pairs_of ends) cut seen refused) findings) where
+    (AreGroupsOf (tracing_in setting limits) scope groups heads (pairs_of ends) cut seen refused) findings) where
   abbrev from : ℕ
   from = scope.from
 
@@ -173,7 +173,7 @@ module _ (setting : Setting) (alike : Alike setting) (all : AllStand setting) (t
       lines_found setting limits marks are.slot_states races alike all there found are.are are.all p.0 race p.1
   shown_is marks found (Ends list) none = absurd none
 
-  pub told_first : (t : Told) → Contains tolds t → IsDifference setting limits t.first
+  pub told_first : (t : GroupHead) → Contains heads t → IsDifference setting limits t.first
   told_first t has = let o = hands.collected.firsts t has in shown_is o.closing.marks (hands.found o.place o.closing o.at) t.first o.shown
 
   -- the time of what is seen of its marks was closed
@@ -209,7 +209,7 @@ module _ (setting : Setting) (alike : Alike setting) (all : AllStand setting) (t
       subst (IsClosedFrom from seen) visible.time_is (closed_here i c at late are.slot_states are.are visible.slot_state visible.among)
   shown_closed i c at late (Ends list) none = absurd none
 
-  pub told_in_time : (t : Told) → Contains tolds t → IsInTime setting from seen t.first
+  pub told_in_time : (t : GroupHead) → Contains heads t → IsInTime setting from seen t.first
   told_in_time t has = let o = hands.collected.firsts t has in shown_closed o.place o.closing o.at o.late t.first o.shown
 
   end_in_time : (end : Pair) → Contains (pairs_of ends) end → (t : State) → Stands setting end.0 t → IsClosedFrom from seen t.queue.time
@@ -600,7 +600,7 @@ pub handed_so : (setting : Setting) (limits : Limits) (scope : Scope) (first now
     traced_by first ≡ tracing_in setting limits → first.scope ≡ scope → KeepsGroups (tracing_in setting limits) scope first [] →
     HandsOn (machine_rules setting) limits (rank_of setting) (λ closings. CollectsGroups first closings now) findings →
     HandsOn (machine_rules setting) limits (rank_of setting) (AreGroupsOf (tracing_in setting limits) scope now.groups.items
-    (tolds_of now.groups.items) (pairs_of now.ends.items) now.cut_runs now.seen now.refused) findings
+    (group_heads now.groups.items) (pairs_of now.ends.items) now.cut_runs now.seen now.refused) findings
 handed_so setting limits scope first now findings is same none hands =
     let P : Tracing → Scope → Type 0 = λ t f. KeepsGroups t f first [] → KeepsGroups t f now hands.closings in
     let kept : P (traced_by first) first.scope = hands.collected.kept [] in
@@ -640,10 +640,10 @@ module _ (setting : Setting) (alike : Alike setting) (all : AllStand setting) (t
     (mark_alike : MarkAlike setting) (wide : HasVariables setting) (ranked : RankIsTime setting)
     (limits : Limits) (scope : Scope) (kept : RaceGroups) (findings : RankedFindings)
     (hands : HandsOn (machine_rules setting) limits (rank_of setting) (AreGroupsOf (tracing_in setting limits) scope kept.groups.items
-    (tolds_of kept.groups.items) (pairs_of kept.ends.items) kept.cut_runs kept.seen kept.refused) findings)
+    (group_heads kept.groups.items) (pairs_of kept.ends.items) kept.cut_runs kept.seen kept.refused) findings)
     (groups : List Group) (names_are : kept.scope.names ≡ scope.names) (tells : AreTold (tracing_in setting limits) kept groups) where
-  abbrev tolds : List Told
-  tolds = tolds_of kept.groups.items
+  abbrev heads : List GroupHead
+  heads = group_heads kept.groups.items
 
   abbrev ends : List (FoundMark MachineState)
   ends = kept.ends.items
@@ -679,39 +679,39 @@ module _ (setting : Setting) (alike : Alike setting) (all : AllStand setting) (t
 
   its_cause : EachGroup (HasItsCause setting) groups
   its_cause i group at = elim (tells.each group (contains_at groups i group at)) [
-    | inl old ↦ (hands.collected.causes (told_of group) (to_map told_of kept.groups.items group old)).0.0
+    | inl old ↦ (hands.collected.causes (group_head group) (to_map group_head kept.groups.items group old)).0.0
     | inr new ↦ new.1.caused.0.0
   ]
 
   its_lack : EachGroup (LacksOnlyNoCause setting limits) groups
   its_lack i group at = elim (tells.each group (contains_at groups i group at)) [
-    | inl old ↦ (hands.collected.causes (told_of group) (to_map told_of kept.groups.items group old)).0.1
+    | inl old ↦ (hands.collected.causes (group_head group) (to_map group_head kept.groups.items group old)).0.1
     | inr new ↦ new.1.caused.0.1
   ]
 
   its_log : EachGroup HasLogOfFirst groups
   its_log i group at = elim (tells.each group (contains_at groups i group at)) [
-    | inl old ↦ (hands.collected.causes (told_of group) (to_map told_of kept.groups.items group old)).1
+    | inl old ↦ (hands.collected.causes (group_head group) (to_map group_head kept.groups.items group old)).1
     | inr new ↦ new.1.caused.1
   ]
 
   its_first : EachGroup (HasFirstDifference setting limits) groups
   its_first i group at = elim (tells.each group (contains_at groups i group at)) [
-    | inl old ↦ told_first setting alike all there here mark_alike wide ranked limits scope kept.groups.items tolds ends kept.cut_runs
-        kept.seen kept.refused findings hands (told_of group) (to_map told_of kept.groups.items group old)
+    | inl old ↦ told_first setting alike all there here mark_alike wide ranked limits scope kept.groups.items heads ends kept.cut_runs
+        kept.seen kept.refused findings hands (group_head group) (to_map group_head kept.groups.items group old)
     | inr new ↦
         let e : length (pairs_of ends) ≡ length ends = length-map ends (λ (f : FoundMark MachineState). (f.state, f.log)) in
         let two = new.0 in
-        told_ends setting alike all there here mark_alike wide ranked limits scope kept.groups.items tolds ends kept.cut_runs kept.seen
+        told_ends setting alike all there here mark_alike wide ranked limits scope kept.groups.items heads ends kept.cut_runs kept.seen
         kept.refused findings hands group.first new.1.tells (omega arith)
   ]
 
   its_time : EachGroup (λ group. IsInTime setting scope.from kept.seen group.first) groups
   its_time i group at = elim (tells.each group (contains_at groups i group at)) [
-    | inl old ↦ told_in_time setting alike all there here mark_alike wide ranked limits scope kept.groups.items tolds ends
+    | inl old ↦ told_in_time setting alike all there here mark_alike wide ranked limits scope kept.groups.items heads ends
         kept.cut_runs kept.seen
-        kept.refused findings hands (told_of group) (to_map told_of kept.groups.items group old)
-    | inr new ↦ ends_in_time setting alike all there here mark_alike wide ranked limits scope kept.groups.items tolds ends
+        kept.refused findings hands (group_head group) (to_map group_head kept.groups.items group old)
+    | inr new ↦ ends_in_time setting alike all there here mark_alike wide ranked limits scope kept.groups.items heads ends
         kept.cut_runs kept.seen
         kept.refused findings hands group.first new.1.tells
   ]
@@ -723,23 +723,23 @@ module _ (setting : Setting) (alike : Alike setting) (all : AllStand setting) (t
     first = its_first;
     log = its_log;
     all = told_counted (IsClosedFrom scope.from kept.seen)
-        (all_to setting alike all there here mark_alike wide ranked limits scope kept.groups.items tolds ends
+        (all_to setting alike all there here mark_alike wide ranked limits scope kept.groups.items heads ends
         kept.cut_runs kept.seen kept.refused
         findings hands);
     all_exhausted = λ e. told_counted (λ time. scope.from ≤ time)
-        (all_throughout setting alike all there here mark_alike wide ranked limits scope kept.groups.items tolds ends kept.cut_runs
+        (all_throughout setting alike all there here mark_alike wide ranked limits scope kept.groups.items heads ends kept.cut_runs
         kept.seen kept.refused findings hands e);
     in_time = its_time;
-    closed = ends_closed setting alike all there here mark_alike wide ranked limits scope kept.groups.items tolds ends kept.cut_runs
+    closed = ends_closed setting alike all there here mark_alike wide ranked limits scope kept.groups.items heads ends kept.cut_runs
         kept.seen kept.refused findings hands;
-    closed_time = time_of_run setting alike all there here mark_alike wide ranked limits scope kept.groups.items tolds ends kept.cut_runs
+    closed_time = time_of_run setting alike all there here mark_alike wide ranked limits scope kept.groups.items heads ends kept.cut_runs
         kept.seen kept.refused findings hands;
-    none = λ e. told_to setting alike all there here mark_alike wide ranked limits scope kept.groups.items tolds ends kept.cut_runs
+    none = λ e. told_to setting alike all there here mark_alike wide ranked limits scope kept.groups.items heads ends kept.cut_runs
         kept.seen kept.refused findings hands (no_told e) (few e);
-    none_exhausted = λ e. told_throughout setting alike all there here mark_alike wide ranked limits scope kept.groups.items tolds ends
+    none_exhausted = λ e. told_throughout setting alike all there here mark_alike wide ranked limits scope kept.groups.items heads ends
         kept.cut_runs kept.seen kept.refused findings hands (no_told e) (few e);
-    cuts = cuts_to setting alike all there here mark_alike wide ranked limits scope kept.groups.items tolds ends kept.cut_runs kept.seen
+    cuts = cuts_to setting alike all there here mark_alike wide ranked limits scope kept.groups.items heads ends kept.cut_runs kept.seen
         kept.refused findings hands;
-    cuts_exhausted = cuts_throughout setting alike all there here mark_alike wide ranked limits scope kept.groups.items tolds ends
+    cuts_exhausted = cuts_throughout setting alike all there here mark_alike wide ranked limits scope kept.groups.items heads ends
         kept.cut_runs kept.seen kept.refused findings hands;
   }

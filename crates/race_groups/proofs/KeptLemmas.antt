@@ -29,8 +29,8 @@ use Rattle.race_groups.specs.Found.{IsNameInOne, Summarizes, name_of}
 use Rattle.race_groups.specs.Inner.{Adds, AllAlike, AreApartInSlot, AreGroupsOf, AreNamedApart, AreTold, AreUncut, CollectsGroups, Counts}
 use Rattle.race_groups.specs.Inner.{CountsStill, FirstTwoUnlike, GrowsBehind, GrowsTo, HaveAllOf, IsCaused, IsEndOfSome, IsGroupOfEnds}
 use Rattle.race_groups.specs.Inner.{IsLastSeen, IsNamedByOne, IsNamedIn, IsNamedInSlot, IsOfSome, IsShownBy, KeepsGroups, OfEachFrom}
-use Rattle.race_groups.specs.Inner.{OfEnds, ShowsNamed, StaysSo, SumsUp, TakesAll, TakesSlot, TellsEnds, Told, Tracing, differences_in}
-use Rattle.race_groups.specs.Inner.{setting_of, told_of, tolds_of, traced_by}
+use Rattle.race_groups.specs.Inner.{OfEnds, ShowsNamed, StaysSo, SumsUp, TakesAll, TakesSlot, TellsEnds, GroupHead, Tracing, differences_in}
+use Rattle.race_groups.specs.Inner.{setting_of, group_head, group_heads, traced_by}
 use Rattle.race_groups.proofs.AddsLemmas.{adds_none, adds_on, adds_weaker}
 use Rattle.race_groups.proofs.CountLemmas.{counts_on, still_on, take_still}
 use Rattle.race_groups.proofs.SumLemmas.{grows_on}
@@ -199,12 +199,12 @@ slot_named setting marks found Here is named = record {
 }
 
 module _ (tracing : Tracing) (scope : Scope) (closings : List (Closing MachineState)) (c : Closing MachineState) (found : FoundInSlot)
-    (is : IsFoundIn tracing.setting c.marks found) (groups new_groups : List Group) (tolds new_tolds : List Told)
+    (is : IsFoundIn tracing.setting c.marks found) (groups new_groups : List Group) (heads new_heads : List GroupHead)
     (ends new_ends : List Pair)
     (cut new_cut : Bool) (seen new_seen : Option ℕ) (refused new_refused : Option NoMemory)
-    (kept : AreGroupsOf tracing scope groups tolds ends cut seen refused closings)
-    (adds : Adds tracing (Contains (differences_in found)) tolds new_tolds) (early_same : c.rank < scope.from → new_groups ≡ groups)
-    (early_tolds : c.rank < scope.from → new_tolds ≡ tolds)
+    (kept : AreGroupsOf tracing scope groups heads ends cut seen refused closings)
+    (adds : Adds tracing (Contains (differences_in found)) heads new_heads) (early_same : c.rank < scope.from → new_groups ≡ groups)
+    (early_heads : c.rank < scope.from → new_heads ≡ heads)
     (counts : scope.from ≤ c.rank → AreApartInSlot found → Counts scope.names (IsNamedInSlot found) groups new_groups)
     (before : c.rank < scope.from → new_ends ≡ ends) (sums : scope.from ≤ c.rank →
     SumsUp tracing.setting (pairs_of found.ends.items) ends new_ends)
@@ -224,17 +224,17 @@ module _ (tracing : Tracing) (scope : Scope) (closings : List (Closing MachineSt
     | inr late ↦ (let s = sums late in (s.more, s.is))
   ]
 
-  more_causes : (t : Told) → Contains new_tolds t → IsCaused tracing t
-  more_causes t has = elim (Contains-append_cases tolds adds.more t (subst (λ (l : List Told). Contains l t) adds.is has)) [
+  more_causes : (t : GroupHead) → Contains new_heads t → IsCaused tracing t
+  more_causes t has = elim (Contains-append_cases heads adds.more t (subst (λ (l : List GroupHead). Contains l t) adds.is has)) [
     | inl old ↦ kept.causes t old
     | inr new ↦ adds.causes t new
   ]
 
-  more_firsts : (t : Told) → Contains new_tolds t → IsOfSome tracing.setting scope.from all t.first
+  more_firsts : (t : GroupHead) → Contains new_heads t → IsOfSome tracing.setting scope.from all t.first
   more_firsts t has = elim (cases_lt c.rank scope.from) [
     | inl early ↦ some_more tracing.setting scope.from closings c t.first
-        (kept.firsts t (subst (λ (l : List Told). Contains l t) (early_tolds early) has))
-    | inr late ↦ elim (Contains-append_cases tolds adds.more t (subst (λ (l : List Told). Contains l t) adds.is has)) [
+        (kept.firsts t (subst (λ (l : List GroupHead). Contains l t) (early_heads early) has))
+    | inr late ↦ elim (Contains-append_cases heads adds.more t (subst (λ (l : List GroupHead). Contains l t) adds.is has)) [
       | inl old ↦ some_more tracing.setting scope.from closings c t.first (kept.firsts t old)
       | inr new ↦ record {
         place = length closings;
@@ -370,7 +370,7 @@ module _ (tracing : Tracing) (scope : Scope) (closings : List (Closing MachineSt
         subst (λ (o : Option ℕ). IsLastSeen o all) (sym (none_seen zero_is)) (last_on seen kept.last_seen (nil_from_length c.marks zero_is))
   ]
 
-  kept_more : AreGroupsOf tracing scope new_groups new_tolds new_ends new_cut new_seen new_refused all
+  kept_more : AreGroupsOf tracing scope new_groups new_heads new_ends new_cut new_seen new_refused all
   kept_more = record {
     causes = more_causes;
     firsts = more_firsts;
@@ -384,10 +384,10 @@ module _ (tracing : Tracing) (scope : Scope) (closings : List (Closing MachineSt
   }
 
 pub kept_none : (tracing : Tracing) (scope : Scope) (groups : List Group) (ends : List Pair) → groups ≡ [] → ends ≡ [] →
-    AreGroupsOf tracing scope groups (tolds_of groups) ends false None None []
+    AreGroupsOf tracing scope groups (group_heads groups) ends false None None []
 kept_none tracing scope groups ends no_group no_end = record {
-  causes = λ t has. nothing_in t (subst (λ (l : List Group). Contains (tolds_of l) t) no_group has);
-  firsts = λ t has. nothing_in t (subst (λ (l : List Group). Contains (tolds_of l) t) no_group has);
+  causes = λ t has. nothing_in t (subst (λ (l : List Group). Contains (group_heads l) t) no_group has);
+  firsts = λ t has. nothing_in t (subst (λ (l : List Group). Contains (group_heads l) t) no_group has);
   all = record {
     rests = λ place. [];
     summaries = λ i group at. absurd (let e = ap (λ (l : List Group). slice_get l i) no_group in cc);
@@ -423,17 +423,17 @@ same_all setting scope groups new_groups refused new_refused closings all still 
     }
 
 -- groups, ends and cuts that are the same, of the same closings
-same_kept : (tracing : Tracing) (scope : Scope) (groups new_groups : List Group) (tolds new_tolds : List Told)
+same_kept : (tracing : Tracing) (scope : Scope) (groups new_groups : List Group) (heads new_heads : List GroupHead)
     (ends new_ends : List (FoundMark MachineState)) (cut new_cut : Bool) (seen new_seen : Option ℕ) (refused new_refused : Option NoMemory)
-    (closings : List (Closing MachineState)) → AreGroupsOf tracing scope groups tolds (pairs_of ends) cut seen refused closings →
-    CountsStill scope.names groups new_groups → new_tolds ≡ tolds → new_ends ≡ ends → (new_cut ≡ false → cut ≡ false) → new_seen ≡ seen →
-    new_refused ≢ None → AreGroupsOf tracing scope new_groups new_tolds (pairs_of new_ends) new_cut new_seen new_refused closings
-same_kept tracing scope groups new_groups tolds new_tolds ends new_ends cut new_cut seen new_seen refused new_refused
+    (closings : List (Closing MachineState)) → AreGroupsOf tracing scope groups heads (pairs_of ends) cut seen refused closings →
+    CountsStill scope.names groups new_groups → new_heads ≡ heads → new_ends ≡ ends → (new_cut ≡ false → cut ≡ false) → new_seen ≡ seen →
+    new_refused ≢ None → AreGroupsOf tracing scope new_groups new_heads (pairs_of new_ends) new_cut new_seen new_refused closings
+same_kept tracing scope groups new_groups heads new_heads ends new_ends cut new_cut seen new_seen refused new_refused
     closings kept still same
     same_ends uncut same_seen gone =
-    let K : List Told → List (FoundMark MachineState) → Option ℕ → Type 0 =
+    let K : List GroupHead → List (FoundMark MachineState) → Option ℕ → Type 0 =
     λ l e o. AreGroupsOf tracing scope new_groups l (pairs_of e) new_cut o new_refused closings in
-    let now : K tolds ends seen = record {
+    let now : K heads ends seen = record {
       causes = kept.causes;
       firsts = kept.firsts;
       all = same_all tracing.setting scope groups new_groups refused new_refused closings kept.all still gone;
@@ -444,8 +444,8 @@ same_kept tracing scope groups new_groups tolds new_tolds ends new_ends cut new_
       uncut = λ e. kept.uncut (uncut e);
       last_seen = kept.last_seen;
     } in
-    subst (λ (l : List Told). K l new_ends new_seen) (sym same)
-    (subst (λ (e : List (FoundMark MachineState)). K tolds e new_seen) (sym same_ends) (subst (K tolds ends) (sym same_seen) now))
+    subst (λ (l : List GroupHead). K l new_ends new_seen) (sym same)
+    (subst (λ (e : List (FoundMark MachineState)). K heads e new_seen) (sym same_ends) (subst (K heads ends) (sym same_seen) now))
 
 -- where the same is kept no more was collected
 pub collects_same : (old new : RaceGroups) → StaysSo old new → new.seen ≡ old.seen → new.refused ≢ None →
@@ -454,8 +454,8 @@ collects_same old new same same_seen gone = λ first closings collected.
     record {
       traced = same.traced ∙ collected.traced;
       scope = same.scope ∙ collected.scope;
-      kept = λ before so. same_kept (traced_by first) first.scope old.groups.items new.groups.items (tolds_of old.groups.items)
-          (tolds_of new.groups.items) old.ends.items new.ends.items old.cut_runs new.cut_runs old.seen new.seen old.refused new.refused
+      kept = λ before so. same_kept (traced_by first) first.scope old.groups.items new.groups.items (group_heads old.groups.items)
+          (group_heads new.groups.items) old.ends.items new.ends.items old.cut_runs new.cut_runs old.seen new.seen old.refused new.refused
           (before ++ closings) (collected.kept before so)
           (subst (λ (s : Scope). CountsStill s.names old.groups.items new.groups.items) collected.scope same.still)
           same.groups same.ends same.cut same_seen gone;
@@ -474,9 +474,9 @@ collects_more old new c found of takes none_seen some_seen same_refused = λ fir
     KeepsGroups t scope new (before ++ (closings ++ c ∷ [])) in
     let behind : Q (traced_by old) old.scope = λ before so.
     subst (KeepsGroups (traced_by old) old.scope new) (append_assoc before closings (c ∷ []))
-    (kept_more (traced_by old) old.scope (before ++ closings) c found of old.groups.items new.groups.items (tolds_of old.groups.items)
-    (tolds_of new.groups.items) (pairs_of old.ends.items) (pairs_of new.ends.items) old.cut_runs new.cut_runs old.seen new.seen
-    old.refused new.refused (so_far before so) takes.adds takes.early (λ early. ap tolds_of (takes.early early)) takes.counts
+    (kept_more (traced_by old) old.scope (before ++ closings) c found of old.groups.items new.groups.items (group_heads old.groups.items)
+    (group_heads new.groups.items) (pairs_of old.ends.items) (pairs_of new.ends.items) old.cut_runs new.cut_runs old.seen new.seen
+    old.refused new.refused (so_far before so) takes.adds takes.early (λ early. ap group_heads (takes.early early)) takes.counts
     (λ early. ap pairs_of (takes.before early)) takes.ends takes.cut
     none_seen some_seen same_refused) in
     record {
@@ -545,9 +545,9 @@ told_of_ends tracing kept groups group two none is of =
 pub takes_all : (found : FoundInSlot) (races : List Race) (line_races : List LineRace) (old new : RaceGroups) (mid : List Group)
     (here there : Tracing) (last : Setting) → races ≡ found.races.items → line_races ≡ found.line_races.items → here ≡ traced_by old →
     there ≡ traced_by old → last ≡ setting_of old → traced_by new ≡ traced_by old → new.scope ≡ old.scope →
-    new.cut_runs ≡ old.cut_runs → Adds here (Contains (map Values races)) (tolds_of old.groups.items) (tolds_of mid) →
+    new.cut_runs ≡ old.cut_runs → Adds here (Contains (map Values races)) (group_heads old.groups.items) (group_heads mid) →
     (AreNamedApart Values races → Counts old.scope.names (IsNamedIn Values races (length races)) old.groups.items mid) →
-    Adds there (Contains (map Lines line_races)) (tolds_of mid) (tolds_of new.groups.items) →
+    Adds there (Contains (map Lines line_races)) (group_heads mid) (group_heads new.groups.items) →
     (AreNamedApart Lines line_races → Counts old.scope.names (IsNamedIn Lines line_races (length line_races)) mid new.groups.items) →
     SumsUp last (pairs_of found.ends.items) (pairs_of old.ends.items) (pairs_of new.ends.items) → TakesAll found old new
 takes_all found races line_races old new mid here there last races_are lines_are here_is there_is last_is traced scope cut one count_one
@@ -556,18 +556,18 @@ takes_all found races line_races old new mid here there last races_are lines_are
     let lines = map Lines line_races in
     let all_are : values ++ lines ≡ differences_in found = λ i. map Values (races_are i) ++ map Lines (lines_are i) in
     let t = traced_by old in
-    let first = adds_weaker t (Contains values) (Contains (values ++ lines)) (tolds_of old.groups.items) (tolds_of mid)
+    let first = adds_weaker t (Contains values) (Contains (values ++ lines)) (group_heads old.groups.items) (group_heads mid)
     (λ d has. Contains-append_left values lines d has)
-    (subst (λ (x : Tracing). Adds x (Contains values) (tolds_of old.groups.items) (tolds_of mid)) here_is one) in
-    let second = adds_weaker t (Contains lines) (Contains (values ++ lines)) (tolds_of mid) (tolds_of new.groups.items)
+    (subst (λ (x : Tracing). Adds x (Contains values) (group_heads old.groups.items) (group_heads mid)) here_is one) in
+    let second = adds_weaker t (Contains lines) (Contains (values ++ lines)) (group_heads mid) (group_heads new.groups.items)
     (λ d has. Contains-append_right values lines d has)
-    (subst (λ (x : Tracing). Adds x (Contains lines) (tolds_of mid) (tolds_of new.groups.items)) there_is other) in
+    (subst (λ (x : Tracing). Adds x (Contains lines) (group_heads mid) (group_heads new.groups.items)) there_is other) in
     record {
       traced = traced;
       scope = scope;
       cut = cut;
-      adds = subst (λ (l : List Difference). Adds t (Contains l) (tolds_of old.groups.items) (tolds_of new.groups.items)) all_are
-          (adds_on t (Contains (values ++ lines)) (tolds_of old.groups.items) (tolds_of mid) (tolds_of new.groups.items) first second);
+      adds = subst (λ (l : List Difference). Adds t (Contains l) (group_heads old.groups.items) (group_heads new.groups.items)) all_are
+          (adds_on t (Contains (values ++ lines)) (group_heads old.groups.items) (group_heads mid) (group_heads new.groups.items) first second);
       counts = λ apart. counts_on old.scope.names (IsNamedIn Values found.races.items (length found.races.items))
           (IsNamedIn Lines found.line_races.items (length found.line_races.items)) old.groups.items mid new.groups.items
           (λ n one other.
@@ -590,8 +590,8 @@ pub takes_early : (time : ℕ) (found : FoundInSlot) (old new : RaceGroups) → 
 takes_early time found old new early traced scope same ends cut = record {
   traced = traced;
   scope = scope;
-  adds = adds_none (traced_by old) (Contains (differences_in found)) (tolds_of old.groups.items)
-      (tolds_of new.groups.items) (ap tolds_of same);
+  adds = adds_none (traced_by old) (Contains (differences_in found)) (group_heads old.groups.items)
+      (group_heads new.groups.items) (ap group_heads same);
   early = λ lt. same;
   counts = λ late. absurd (omega (arith, early, late));
   before = λ lt. ends;
@@ -610,10 +610,10 @@ takes_late time found old mid new late traced scope same ends cut all =
     record {
       traced = all.traced ∙ traced;
       scope = all.scope ∙ scope;
-      adds = subst (λ (t : Tracing). Adds t (Contains (differences_in found)) (tolds_of old.groups.items)
-          (tolds_of new.groups.items)) traced
-          (subst (λ (l : List Group). Adds (traced_by mid) (Contains (differences_in found)) (tolds_of l)
-          (tolds_of new.groups.items)) same all.adds);
+      adds = subst (λ (t : Tracing). Adds t (Contains (differences_in found)) (group_heads old.groups.items)
+          (group_heads new.groups.items)) traced
+          (subst (λ (l : List Group). Adds (traced_by mid) (Contains (differences_in found)) (group_heads l)
+          (group_heads new.groups.items)) same all.adds);
       early = λ lt. absurd (omega (arith, lt, late));
       counts = λ le. counts;
       before = λ lt. absurd (omega (arith, lt, late));
@@ -640,12 +640,12 @@ takes_seen time found old new seen takes = record {
 
 -- ---- it grows
 
-pub grows_by : (tracing : Tracing) (P : Difference → Type 0) (old new : List Told) → Adds tracing P old new → GrowsTo old new
+pub grows_by : (tracing : Tracing) (P : Difference → Type 0) (old new : List GroupHead) → Adds tracing P old new → GrowsTo old new
 grows_by tracing P old new adds = (adds.more, adds.is)
 
 pub grows_all : (old new : RaceGroups) (mid : List Group) → traced_by new ≡ traced_by old → new.scope ≡ old.scope →
     new.cut_runs ≡ old.cut_runs →
-    GrowsTo (tolds_of old.groups.items) (tolds_of mid) → GrowsTo (tolds_of mid) (tolds_of new.groups.items) →
+    GrowsTo (group_heads old.groups.items) (group_heads mid) → GrowsTo (group_heads mid) (group_heads new.groups.items) →
     CountsStill old.scope.names old.groups.items mid →
     CountsStill old.scope.names mid new.groups.items →
     GrowsTo old.ends.items new.ends.items → GrowsBehind old new
@@ -653,7 +653,7 @@ grows_all old new mid traced scope cut one other count_one count_other ends = re
   traced = traced;
   scope = scope;
   still = still_on old.scope.names old.groups.items mid new.groups.items count_one count_other;
-  groups = grows_on (tolds_of old.groups.items) (tolds_of mid) (tolds_of new.groups.items) one other;
+  groups = grows_on (group_heads old.groups.items) (group_heads mid) (group_heads new.groups.items) one other;
   ends = ends;
   cut = λ e. sym cut ∙ e;
 }
@@ -667,7 +667,7 @@ grows_late old mid new traced scope same ends cut grows = record {
   scope = grows.scope ∙ scope;
   still = subst (λ (s : Scope). CountsStill s.names old.groups.items new.groups.items) scope
       (subst (λ (l : List Group). CountsStill mid.scope.names l new.groups.items) same grows.still);
-  groups = subst (λ (l : List Group). GrowsTo (tolds_of l) (tolds_of new.groups.items)) same grows.groups;
+  groups = subst (λ (l : List Group). GrowsTo (group_heads l) (group_heads new.groups.items)) same grows.groups;
   ends = subst (λ (l : List (FoundMark MachineState)). GrowsTo l new.ends.items) ends grows.ends;
   cut = λ e. cut (grows.cut e);
 }
@@ -677,16 +677,16 @@ pub back_again : (old mid new : RaceGroups) (g e : ℕ) → g ≡ length old.gro
     traced_by new ≡ traced_by mid → new.scope ≡ mid.scope →
     new.groups.items ≡ take g mid.groups.items → new.ends.items ≡ take e mid.ends.items → new.cut_runs ≡ mid.cut_runs → StaysSo old new
 back_again old mid new g e g_is e_is grows traced scope groups ends cut =
-    let len : length (tolds_of old.groups.items) ≡ length old.groups.items = length-map old.groups.items told_of in
+    let len : length (group_heads old.groups.items) ≡ length old.groups.items = length-map old.groups.items group_head in
     record {
       traced = traced ∙ grows.traced;
       scope = scope ∙ grows.scope;
       still = subst (CountsStill old.scope.names old.groups.items) (sym (groups ∙ ap (λ (n : ℕ). take n mid.groups.items) g_is))
           (take_still old.scope.names old.groups.items mid.groups.items grows.still);
-      groups = ap tolds_of (groups ∙ ap (λ (n : ℕ). take n mid.groups.items) g_is)
-          ∙ sym (take-map told_of (length old.groups.items) mid.groups.items) ∙ ap (take (length old.groups.items)) grows.groups.1
-          ∙ ap (λ (n : ℕ). take n (tolds_of old.groups.items ++ grows.groups.0)) (sym len)
-          ∙ take-append_seam (tolds_of old.groups.items) grows.groups.0;
+      groups = ap group_heads (groups ∙ ap (λ (n : ℕ). take n mid.groups.items) g_is)
+          ∙ sym (take-map group_head (length old.groups.items) mid.groups.items) ∙ ap (take (length old.groups.items)) grows.groups.1
+          ∙ ap (λ (n : ℕ). take n (group_heads old.groups.items ++ grows.groups.0)) (sym len)
+          ∙ take-append_seam (group_heads old.groups.items) grows.groups.0;
       ends = ends ∙ ap (λ (n : ℕ). take n mid.ends.items) e_is ∙ ap (take (length old.ends.items)) grows.ends.1
           ∙ take-append_seam old.ends.items grows.ends.0;
       cut = λ none. grows.cut (sym cut ∙ none);

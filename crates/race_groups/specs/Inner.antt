@@ -34,16 +34,16 @@ use Rattle.race_groups.specs.Found.{AllSummarize, AreNamedOnce, IsLogOf, IsNameI
 -- ---- groups
 
 -- what stays of a group: its cause, its log and its first difference
-pub record Told : Type 0 where
+pub record GroupHead : Type 0 where
   pub cause : Option Cause
   pub log : List (ℕ × ℕ)
   pub first : Difference
 
-abbrev pub told_of : Group → Told
-told_of group = record { cause = group.cause; log = group.log; first = group.first }
+abbrev pub group_head : Group → GroupHead
+group_head group = record { cause = group.cause; log = group.log; first = group.first }
 
-abbrev pub tolds_of : List Group → List Told
-tolds_of groups = map told_of groups
+abbrev pub group_heads : List Group → List GroupHead
+group_heads groups = map group_head groups
 
 -- in which runs logs are traced to their causes, and how many steps a slot may take there
 pub record Tracing : Type 0 where
@@ -58,7 +58,7 @@ abbrev pub IsTraced : Tracing → List (ℕ × ℕ) → Option Cause → Type 0
 IsTraced tracing log cause = IfSome cause (IsCause tracing.setting log) × IfNone cause (HasNoCause tracing.setting log tracing.steps)
 
 -- its cause is that of its log, and this is one of its first difference
-abbrev pub IsCaused : Tracing → Told → Type 0
+abbrev pub IsCaused : Tracing → GroupHead → Type 0
 IsCaused tracing t = IsTraced tracing t.log t.cause × IsLogOf t.first t.log
 
 -- a log belongs to the group at a place, or to none, with its cause
@@ -67,11 +67,11 @@ IsPlaced tracing count log (With place) = place < count
 IsPlaced tracing count log (Apart cause) = IsTraced tracing log cause
 
 -- groups stand behind those that there were, of such differences, each with its cause
-pub record Adds (tracing : Tracing) (P : Difference → Type 0) (old new : List Told) : Type 0 where
-  pub more : List Told
+pub record Adds (tracing : Tracing) (P : Difference → Type 0) (old new : List GroupHead) : Type 0 where
+  pub more : List GroupHead
   pub is : new ≡ old ++ more
-  pub causes : (t : Told) → Contains more t → IsCaused tracing t
-  pub firsts : (t : Told) → Contains more t → P t.first
+  pub causes : (t : GroupHead) → Contains more t → IsCaused tracing t
+  pub firsts : (t : GroupHead) → Contains more t → P t.first
 
 -- ---- logs
 
@@ -91,14 +91,14 @@ AreDefault logs count = (side : ℕ) → side < count → IsDefault logs side
 
 -- one difference more follows the group's first
 pub record Follows (names : ℕ) (name : Name) (old new : Group) : Type 0 where
-  pub told : told_of new ≡ told_of old
+  pub told : group_head new ≡ group_head old
   pub room : length old.next.items < names → new.next.items ≡ old.next.items ++ name ∷ []
   pub full : names ≤ length old.next.items → new.next.items ≡ old.next.items
   pub more : new.more ≡ min (old.more + 1) 18446744073709551615
   pub last : new.last ≡ name.time
 
 pub record IsUntouched (old new : Group) : Type 0 where
-  pub told : told_of new ≡ told_of old
+  pub told : group_head new ≡ group_head old
   pub next : new.next.items ≡ old.next.items
   pub more : new.more ≡ old.more
   pub last : new.last ≡ old.last
@@ -229,7 +229,7 @@ pub record TakesAll (found : FoundInSlot) (old new : RaceGroups) : Type 0 where
   pub traced : traced_by new ≡ traced_by old
   pub scope : new.scope ≡ old.scope
   pub cut : new.cut_runs ≡ old.cut_runs
-  pub adds : Adds (traced_by old) (Contains (differences_in found)) (tolds_of old.groups.items) (tolds_of new.groups.items)
+  pub adds : Adds (traced_by old) (Contains (differences_in found)) (group_heads old.groups.items) (group_heads new.groups.items)
   pub counts : AreApartInSlot found → Counts old.scope.names (IsNamedInSlot found) old.groups.items new.groups.items
   pub ends : SumsUp (setting_of old) (pairs_of found.ends.items) (pairs_of old.ends.items) (pairs_of new.ends.items)
 
@@ -237,7 +237,7 @@ pub record TakesAll (found : FoundInSlot) (old new : RaceGroups) : Type 0 where
 pub record TakesSlot (time : ℕ) (found : FoundInSlot) (old new : RaceGroups) : Type 0 where
   pub traced : traced_by new ≡ traced_by old
   pub scope : new.scope ≡ old.scope
-  pub adds : Adds (traced_by old) (Contains (differences_in found)) (tolds_of old.groups.items) (tolds_of new.groups.items)
+  pub adds : Adds (traced_by old) (Contains (differences_in found)) (group_heads old.groups.items) (group_heads new.groups.items)
   pub early : time < old.scope.from → new.groups.items ≡ old.groups.items
   pub counts : old.scope.from ≤ time → AreApartInSlot found → Counts old.scope.names (IsNamedInSlot found) old.groups.items new.groups.items
   pub before : time < old.scope.from → new.ends.items ≡ old.ends.items
@@ -248,7 +248,7 @@ pub record TakesSlot (time : ℕ) (found : FoundInSlot) (old new : RaceGroups) :
 pub record GrowsBehind (old new : RaceGroups) : Type 0 where
   pub traced : traced_by new ≡ traced_by old
   pub scope : new.scope ≡ old.scope
-  pub groups : GrowsTo (tolds_of old.groups.items) (tolds_of new.groups.items)
+  pub groups : GrowsTo (group_heads old.groups.items) (group_heads new.groups.items)
   pub still : CountsStill old.scope.names old.groups.items new.groups.items
   pub ends : GrowsTo old.ends.items new.ends.items
   pub cut : new.cut_runs ≡ false → old.cut_runs ≡ false
@@ -257,7 +257,7 @@ pub record GrowsBehind (old new : RaceGroups) : Type 0 where
 pub record StaysSo (old new : RaceGroups) : Type 0 where
   pub traced : traced_by new ≡ traced_by old
   pub scope : new.scope ≡ old.scope
-  pub groups : tolds_of new.groups.items ≡ tolds_of old.groups.items
+  pub groups : group_heads new.groups.items ≡ group_heads old.groups.items
   pub still : CountsStill old.scope.names old.groups.items new.groups.items
   pub ends : new.ends.items ≡ old.ends.items
   pub cut : new.cut_runs ≡ false → old.cut_runs ≡ false
@@ -336,11 +336,11 @@ IsLastSeen None closings = OfEach closings (λ c. c.marks ≡ [])
 IsLastSeen (Some rank) closings = IsLastWithMarks closings rank
 
 -- what is kept of closings
-pub record AreGroupsOf (tracing : Tracing) (scope : Scope) (groups : List Group) (tolds : List Told)
+pub record AreGroupsOf (tracing : Tracing) (scope : Scope) (groups : List Group) (heads : List GroupHead)
     (kept : List (MachineState × List (ℕ × ℕ))) (cut : Bool) (seen : Option ℕ) (refused : Option NoMemory)
     (closings : List (Closing MachineState)) : Type 0 where
-  pub causes : (t : Told) → Contains tolds t → IsCaused tracing t
-  pub firsts : (t : Told) → Contains tolds t → IsOfSome tracing.setting scope.from closings t.first
+  pub causes : (t : GroupHead) → Contains heads t → IsCaused tracing t
+  pub firsts : (t : GroupHead) → Contains heads t → IsOfSome tracing.setting scope.from closings t.first
   pub all : HaveAllOf tracing.setting scope groups refused closings
   pub ends : (end : MachineState × List (ℕ × ℕ)) → Contains kept end → IsEndOfSome tracing.setting scope.from closings end
   pub no_end : kept ≡ [] → OfEachFrom scope.from closings (λ marks. AreEndsOf tracing.setting marks [])
@@ -352,7 +352,7 @@ pub record AreGroupsOf (tracing : Tracing) (scope : Scope) (groups : List Group)
 
 abbrev pub KeepsGroups : Tracing → Scope → RaceGroups → List (Closing MachineState) → Type 0
 KeepsGroups tracing scope kept closings =
-    AreGroupsOf tracing scope kept.groups.items (tolds_of kept.groups.items)
+    AreGroupsOf tracing scope kept.groups.items (group_heads kept.groups.items)
     (pairs_of kept.ends.items) kept.cut_runs kept.seen kept.refused closings
 
 -- what collecting these closings makes of groups that kept what there was before
@@ -384,7 +384,7 @@ TellsEnds ends (Ends list) = list.items ≡ ends
 
 -- the group tells them, with their cause
 pub record IsGroupOfEnds (tracing : Tracing) (ends : List (FoundMark MachineState)) (group : Group) : Type 0 where
-  pub caused : IsCaused tracing (told_of group)
+  pub caused : IsCaused tracing (group_head group)
   pub next : group.next.items ≡ []
   pub more : group.more ≡ 0
   pub tells : TellsEnds ends group.first

@@ -4,7 +4,7 @@ ghost use Rattle.std.specs.Prelude.{◌≡◌, ◌<◌, ℕ, IfOk, OnOk, false, 
 ghost use Rattle.std.specs.List.{Contains};
 ghost use Rattle.race_groups.specs.Found.{IsLogOf, logs_of};
 ghost use Rattle.race_groups.specs.Inner.{Adds, AreNamedApart, Counts, CountsStill, HasName, IsDefault, IsNamedIn, IsTraced, Tracing};
-ghost use Rattle.race_groups.specs.Inner.{Widens, tolds_of, tracing_of};
+ghost use Rattle.race_groups.specs.Inner.{Widens, group_heads, tracing_of};
 
 use crate::causes::{Causes, Placed};
 use crate::group::{Group, Name};
@@ -18,7 +18,7 @@ use std::alloc::Global;
 #[tactic(auto, using(crate::proofs::AddsLemmas::told_alike))]
 fn follow(groups: &mut Vec<Group>, place: usize, name: Name, names: usize) -> Result<(), NoMemory>
     requires { place < length groups.old.items }
-    ensures told { tolds_of groups.new.items ≡ tolds_of groups.old.items }
+    ensures told { group_heads groups.new.items ≡ group_heads groups.old.items }
     ensures still { CountsStill names groups.old.items groups.new.items }
     ensures counts { OnOk result (Counts names (λ n. name ≡ n) groups.old.items groups.new.items) }
 {
@@ -36,7 +36,7 @@ fn open<R: SlotRace>(
     race: &R,
 ) -> Result<(), NoMemory>
     ensures adds { (tracing : Tracing) → IsTraced tracing log.now cause → IsLogOf (R.difference race.now) log.now →
-        Adds tracing (λ d. d ≡ R.difference race.now) (tolds_of groups.old.items) (tolds_of groups.new.items) }
+        Adds tracing (λ d. d ≡ R.difference race.now) (group_heads groups.old.items) (group_heads groups.new.items) }
     ensures still { (names : ℕ) → CountsStill names groups.old.items groups.new.items }
     ensures counts { OnOk result ((names : ℕ) → Counts names (HasName (R.difference race.now))
         groups.old.items groups.new.items) }
@@ -67,7 +67,7 @@ fn put_side<R: SlotRace>(
     requires log { IsLogOf (R.difference race.now) log.now }
     ensures traced { tracing_of causes.new ≡ tracing_of causes.old }
     ensures adds { Adds (tracing_of causes.old) (λ d. d ≡ R.difference race.now)
-        (tolds_of groups.old.items) (tolds_of groups.new.items) }
+        (group_heads groups.old.items) (group_heads groups.new.items) }
     ensures still { CountsStill names groups.old.items groups.new.items }
     ensures counts { OnOk result (counted ≡ false → Counts names (HasName (R.difference race.now))
         groups.old.items groups.new.items) }
@@ -96,7 +96,7 @@ fn put_departed<R: SlotRace>(
 ) -> Result<bool, NoMemory>
     ensures traced { tracing_of causes.new ≡ tracing_of causes.old }
     ensures adds { Adds (tracing_of causes.old) (λ d. d ≡ R.difference race.now)
-        (tolds_of groups.old.items) (tolds_of groups.new.items) }
+        (group_heads groups.old.items) (group_heads groups.new.items) }
     ensures still { CountsStill names groups.old.items groups.new.items }
     ensures counts { IfOk result (λ is. is ≡ true → counted ≡ false → Counts names (HasName (R.difference race.now))
         groups.old.items groups.new.items) }
@@ -122,7 +122,7 @@ fn put<R: SlotRace>(
 ) -> Result<(), NoMemory>
     ensures traced { tracing_of causes.new ≡ tracing_of causes.old }
     ensures adds { Adds (tracing_of causes.old) (λ d. d ≡ R.difference race.now)
-        (tolds_of groups.old.items) (tolds_of groups.new.items) }
+        (group_heads groups.old.items) (group_heads groups.new.items) }
     ensures still { CountsStill names groups.old.items groups.new.items }
     ensures counts { OnOk result (Counts names (HasName (R.difference race.now))
         groups.old.items groups.new.items) }
@@ -147,7 +147,7 @@ pub(crate) fn put_all<R: SlotRace>(
 ) -> Result<(), NoMemory>
     ensures traced { tracing_of causes.new ≡ tracing_of causes.old }
     ensures adds { Adds (tracing_of causes.old) (Contains (map R.difference races.now))
-        (tolds_of groups.old.items) (tolds_of groups.new.items) }
+        (group_heads groups.old.items) (group_heads groups.new.items) }
     ensures still { CountsStill names groups.old.items groups.new.items }
     ensures counts { OnOk result (AreNamedApart R.difference races.now →
         Counts names (IsNamedIn R.difference races.now (length races.now)) groups.old.items groups.new.items) }

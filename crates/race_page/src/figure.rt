@@ -2,7 +2,7 @@
 
 use crate::html::{Piece, put, put_all};
 use crate::lane::{HEIGHT, WIDTH, column_at, put_lane};
-use crate::shape::{Spot, put_rectangle, put_text};
+use crate::shape::{Extent, put_rectangle, put_text};
 use crate::signals::Signals;
 use basis::NoMemory;
 use race_text::put_time;
@@ -69,8 +69,8 @@ fn values_of(
 
 impl<'a> Figure<'a> {
     // The place of a column, at this height.
-    fn spot(&self, column: usize, y: u64) -> Spot {
-        Spot {
+    fn extent(&self, column: usize, y: u64) -> Extent {
+        Extent {
             x: column_at(self.left, column),
             y,
             width: WIDTH,
@@ -87,27 +87,27 @@ impl<'a> Figure<'a> {
     ) -> Result<(), NoMemory> {
         let is_slot = time == self.runs.time;
         if is_slot {
-            put_rectangle(page, "slot", self.spot(column, 0), height)?;
+            put_rectangle(page, "slot", self.extent(column, 0), height)?;
         }
         let mut text = Vec::new(self.alloc);
         put_time(&mut text, self.machine, time)?;
-        let spot = Spot {
+        let extent = Extent {
             x: column_at(self.left, column).saturating_add(4),
             y: 18,
             width: WIDTH,
         };
         let class = if is_slot { "time now" } else { "time" };
-        put_text(page, class, spot, &text)
+        put_text(page, class, extent, &text)
     }
 
     // What the numbers over the columns are.
     fn put_axis(&self, page: &mut Vec<u8>) -> Result<(), NoMemory> {
-        let spot = Spot {
+        let extent = Extent {
             x: 4,
             y: 18,
             width: self.left.saturating_sub(8),
         };
-        put_text(page, "axis", spot, b"slot at")
+        put_text(page, "axis", extent, b"slot at")
     }
 
     // The times over the columns.
@@ -123,7 +123,7 @@ impl<'a> Figure<'a> {
     fn put_marks(&self, page: &mut Vec<u8>, variable: usize, y: u64) -> Result<(), NoMemory> {
         for (column, time) in self.runs.columns.iter().enumerate() {
             if self.runs.differs(variable, *time) {
-                put_rectangle(page, "differs", self.spot(column, y), 2 * HEIGHT)?;
+                put_rectangle(page, "differs", self.extent(column, y), 2 * HEIGHT)?;
             }
         }
         Ok(())
@@ -131,12 +131,12 @@ impl<'a> Figure<'a> {
 
     // The name of a run before its lane.
     fn put_run(&self, page: &mut Vec<u8>, name: &[u8], y: u64) -> Result<(), NoMemory> {
-        let spot = Spot {
+        let extent = Extent {
             x: self.left.saturating_sub(RUN),
             y: y.saturating_add(15),
             width: RUN,
         };
-        put_text(page, "run", spot, name)
+        put_text(page, "run", extent, name)
     }
 
     // The name of the variable, marked where the variable differs.
@@ -147,13 +147,18 @@ impl<'a> Figure<'a> {
         name: &[u8],
         y: u64,
     ) -> Result<(), NoMemory> {
-        let spot = Spot {
+        let extent = Extent {
             x: 4,
             y: y.saturating_add(15),
             width: self.left.saturating_sub(RUN + 8),
         };
         let differs = self.runs.differs_somewhere(number);
-        put_text(page, if differs { "name odd" } else { "name" }, spot, name)
+        put_text(
+            page,
+            if differs { "name odd" } else { "name" },
+            extent,
+            name,
+        )
     }
 
     // A signal: its name, its lane in the parent, and its lane in the run that departs.

@@ -1,7 +1,7 @@
 // One lane of a figure: what a variable is at each time, in one run.
 
 use crate::html::put;
-use crate::shape::{Spot, put_rectangle, put_text};
+use crate::shape::{Extent, put_rectangle, put_text};
 use basis::NoMemory;
 use race_text::put_value;
 use std::alloc::Global;
@@ -85,20 +85,20 @@ pub(crate) fn column_at(left: u64, number: usize) -> u64 {
 }
 
 // Where the span stands in a lane.
-fn spot_of(span: Span, left: u64, y: u64) -> Spot {
-    Spot {
+fn extent_of(span: Span, left: u64, y: u64) -> Extent {
+    Extent {
         x: column_at(left, span.from),
         y,
         width: WIDTH.saturating_mul(span.count as u64),
     }
 }
 
-// The spot, so much further down, and so much further to the right.
-fn translate(spot: Spot, right: u64, down: u64) -> Spot {
-    Spot {
-        x: spot.x.saturating_add(right),
-        y: spot.y.saturating_add(down),
-        width: spot.width.saturating_sub(right),
+// The extent, so much further down, and so much further to the right.
+fn translate(extent: Extent, right: u64, down: u64) -> Extent {
+    Extent {
+        x: extent.x.saturating_add(right),
+        y: extent.y.saturating_add(down),
+        width: extent.width.saturating_sub(right),
     }
 }
 
@@ -109,12 +109,12 @@ fn put_box(
     variable: &Variable,
     value: Vec4,
     class: &str,
-    spot: Spot,
+    extent: Extent,
 ) -> Result<(), NoMemory> {
     let mut text = Vec::new(alloc);
     put_value(&mut text, variable, value)?;
-    put_rectangle(page, class, translate(spot, 0, 3), HEIGHT - 6)?;
-    put_text(page, "v", translate(spot, 5, 15), &text)
+    put_rectangle(page, class, translate(extent, 0, 3), HEIGHT - 6)?;
+    put_text(page, "v", translate(extent, 5, 15), &text)
 }
 
 // A value where it stays.
@@ -123,13 +123,13 @@ fn put_span(
     page: &mut Vec<u8>,
     variable: &Variable,
     value: Vec4,
-    spot: Spot,
+    extent: Extent,
 ) -> Result<(), NoMemory> {
     match look_of(value) {
-        Look::Low => put_rectangle(page, "l", translate(spot, 0, HEIGHT - 5), 2),
-        Look::High => put_rectangle(page, "l", translate(spot, 0, 3), 2),
-        Look::Number => put_box(alloc, page, variable, value, "n", spot),
-        Look::Unknown => put_box(alloc, page, variable, value, "x", spot),
+        Look::Low => put_rectangle(page, "l", translate(extent, 0, HEIGHT - 5), 2),
+        Look::High => put_rectangle(page, "l", translate(extent, 0, 3), 2),
+        Look::Number => put_box(alloc, page, variable, value, "n", extent),
+        Look::Unknown => put_box(alloc, page, variable, value, "x", extent),
     }
 }
 
@@ -148,7 +148,7 @@ fn put_edge(
     page: &mut Vec<u8>,
     before: Option<Vec4>,
     value: Vec4,
-    spot: Spot,
+    extent: Extent,
 ) -> Result<(), NoMemory> {
     let Some(before) = before else {
         return Ok(());
@@ -156,9 +156,9 @@ fn put_edge(
     if !is_line(before) || !is_line(value) {
         return Ok(());
     }
-    let edge = Spot {
-        x: spot.x,
-        y: spot.y.saturating_add(3),
+    let edge = Extent {
+        x: extent.x,
+        y: extent.y.saturating_add(3),
         width: 2,
     };
     put_rectangle(page, "l", edge, HEIGHT - 6)
@@ -175,9 +175,9 @@ pub(crate) fn put_lane(
 ) -> Result<(), NoMemory> {
     let mut before = None;
     for span in &spans_of(alloc, values)? {
-        let spot = spot_of(*span, left, y);
-        put_edge(page, before, span.value, spot)?;
-        put_span(alloc, page, variable, span.value, spot)?;
+        let extent = extent_of(*span, left, y);
+        put_edge(page, before, span.value, extent)?;
+        put_span(alloc, page, variable, span.value, extent)?;
         before = Some(span.value);
     }
     put(page, "\n")

@@ -5,7 +5,7 @@ use basis::NoMemory;
 
 /// Where a shape stands, and how wide it is.
 #[derive(Clone, Copy)]
-pub(crate) struct Spot {
+pub(crate) struct Extent {
     pub(crate) x: u64,
     pub(crate) y: u64,
     pub(crate) width: u64,
@@ -15,7 +15,7 @@ pub(crate) struct Spot {
 pub(crate) fn put_rectangle(
     page: &mut Vec<u8>,
     class: &str,
-    spot: Spot,
+    extent: Extent,
     height: u64,
 ) -> Result<(), NoMemory> {
     put_all(
@@ -24,11 +24,11 @@ pub(crate) fn put_rectangle(
             Piece::Mark("<rect class=\""),
             Piece::Mark(class),
             Piece::Mark("\" x=\""),
-            Piece::Number(spot.x),
+            Piece::Number(extent.x),
             Piece::Mark("\" y=\""),
-            Piece::Number(spot.y),
+            Piece::Number(extent.y),
             Piece::Mark("\" width=\""),
-            Piece::Number(spot.width),
+            Piece::Number(extent.width),
             Piece::Mark("\" height=\""),
             Piece::Number(height),
             Piece::Mark("\"/>"),
@@ -43,16 +43,16 @@ fn letters_in(width: u64) -> usize {
 }
 
 // `<text class=".." x=".." y="..">`
-fn put_front(page: &mut Vec<u8>, class: &str, spot: Spot) -> Result<(), NoMemory> {
+fn put_front(page: &mut Vec<u8>, class: &str, extent: Extent) -> Result<(), NoMemory> {
     put_all(
         page,
         &[
             Piece::Mark("<text class=\""),
             Piece::Mark(class),
             Piece::Mark("\" x=\""),
-            Piece::Number(spot.x),
+            Piece::Number(extent.x),
             Piece::Mark("\" y=\""),
-            Piece::Number(spot.y),
+            Piece::Number(extent.y),
             Piece::Mark("\">"),
         ],
     )
@@ -62,11 +62,11 @@ fn put_front(page: &mut Vec<u8>, class: &str, spot: Spot) -> Result<(), NoMemory
 pub(crate) fn put_text(
     page: &mut Vec<u8>,
     class: &str,
-    spot: Spot,
+    extent: Extent,
     text: &[u8],
 ) -> Result<(), NoMemory> {
-    let room = letters_in(spot.width);
-    put_front(page, class, spot)?;
+    let room = letters_in(extent.width);
+    put_front(page, class, extent)?;
     if text.len() <= room {
         return put_all(page, &[Piece::Text(text), Piece::Mark("</text>")]);
     }

@@ -86,7 +86,7 @@ fn until_of(findings: &Findings<'_>) -> Option<u64> {
 
 // Whether a run may take more steps than a replay of which nothing is said.
 fn takes_steps(findings: &Findings<'_>) -> Result<bool, NoMemory> {
-    if findings.told.steps <= REPLAY_STEPS || findings.races.groups.is_empty() {
+    if findings.summary.steps <= REPLAY_STEPS || findings.races.groups.is_empty() {
         return Ok(false);
     }
     is_longer(findings.machine, FEW_STEPS)
@@ -113,7 +113,7 @@ pub fn put_files(text: &mut Vec<u8>, alloc: Global, names: &[&str]) -> Result<()
 /// What stands behind the log in the command that replays a run of the top module: which top module, how far it goes, the files.
 pub fn behind_log(alloc: Global, findings: &Findings<'_>) -> Result<Vec<u8>, NoMemory> {
     let mut text = Vec::new(alloc);
-    if findings.told.is_top_named {
+    if findings.summary.is_top_named {
         put(&mut text, b" --top")?;
         put_word(&mut text, &findings.machine.design().top)?;
     }
@@ -121,7 +121,7 @@ pub fn behind_log(alloc: Global, findings: &Findings<'_>) -> Result<Vec<u8>, NoM
         put_option(&mut text, b" --until ", until)?;
     }
     if takes_steps(findings)? {
-        put_option(&mut text, b" --steps ", u64::from(findings.told.steps))?;
+        put_option(&mut text, b" --steps ", u64::from(findings.summary.steps))?;
     }
     put_files(&mut text, alloc, findings.sources.names)?;
     Ok(text)

@@ -175,7 +175,7 @@ fn groups(alloc: Global, findings: &Findings<'_>) -> Result<Value, NoMemory> {
         let facts = Facts::new(alloc, findings.machine, group)?;
         let subject = findings.subject(group, &facts);
         let waiver = findings.waiver(place);
-        list.value(group_of(alloc, subject, findings.told.named_count(), waiver)?);
+        list.value(group_of(alloc, subject, findings.summary.named_count(), waiver)?);
     }
     list.whole()
 }
@@ -203,16 +203,16 @@ fn put_status(members: &mut Members, status: RankedStatus, stopped_by: &'static 
 
 // What was looked at.
 fn put_seen(members: &mut Members, findings: &Findings<'_>) {
-    let (races, told) = (findings.races, findings.told);
-    put_status(members, races.search.status, told.stopped_by);
+    let (races, summary) = (findings.races, findings.summary);
+    put_status(members, races.search.status, summary.stopped_by);
     members.value("closed", Value::from(races.search.closed));
-    members.number("departures", u64::from(told.departures));
-    members.number("states", told.states);
+    members.number("departures", u64::from(summary.departures));
+    members.number("states", summary.states);
     members.flag("cut_runs", races.cut_runs);
     if races.cut_runs {
         members.number("until", findings.machine.until());
     }
-    members.number("from", told.from);
+    members.number("from", summary.from);
     members.number("ignored", races.ignored);
 }
 

@@ -19,7 +19,7 @@ pub const NAMED: usize = 3;
 /// time before which differences are passed over; whether all that follow are named; how many states were visited, in how many
 /// milliseconds; and by which option the search was stopped, where its watcher stopped it.
 #[derive(Clone, Copy)]
-pub struct Told {
+pub struct SearchSummary {
     pub departures: u32,
     pub steps: u32,
     pub is_top_named: bool,
@@ -30,7 +30,7 @@ pub struct Told {
     pub stopped_by: &'static [u8],
 }
 
-impl Told {
+impl SearchSummary {
     /// How many of the differences that follow are named.
     pub fn named_count(&self) -> usize {
         if self.all { usize::MAX } else { NAMED }
@@ -44,7 +44,7 @@ pub struct Findings<'a> {
     pub machine: &'a Machine,
     pub sources: &'a Sources<'a>,
     pub races: &'a Races,
-    pub told: &'a Told,
+    pub summary: &'a SearchSummary,
     pub waivers: &'a [Waiver<'a>],
     pub waived: &'a Waived,
 }
@@ -162,15 +162,15 @@ pub fn put_seen(text: &mut Vec<u8>, findings: &Findings<'_>) -> Result<(), NoMem
     let Findings {
         machine,
         races,
-        told,
+        summary,
         ..
     } = *findings;
     if let RankedStatus::Cut(reason) = races.search.status {
         put(text, b" The search was cut ")?;
-        put_reason(text, reason, told.stopped_by)?;
+        put_reason(text, reason, summary.stopped_by)?;
         return put_closed(text, machine, races.search.closed);
     }
-    let departures = Piece::Count(u64::from(told.departures), b"departure");
+    let departures = Piece::Count(u64::from(summary.departures), b"departure");
     put_all(
         text,
         &[Piece::Bytes(b" Nothing was missed within "), departures],
@@ -187,14 +187,17 @@ pub fn put_seen(text: &mut Vec<u8>, findings: &Findings<'_>) -> Result<(), NoMem
 }
 
 // ` (17 states, 0.01 s).`
-fn put_cost(text: &mut Vec<u8>, told: &Told) -> Result<(), NoMemory> {
-    let (seconds, hundredths) = (told.milliseconds / 1_000, told.milliseconds % 1_000 / 10);
+fn put_cost(text: &mut Vec<u8>, summary: &SearchSummary) -> Result<(), NoMemory> {
+    let (seconds, hundredths) = (
+        summary.milliseconds / 1_000,
+        summary.milliseconds % 1_000 / 10,
+    );
     let point: &[u8] = if hundredths < 10 { b".0" } else { b"." };
     put_all(
         text,
         &[
             Piece::Bytes(b" ("),
-            Piece::Count(told.states, b"state"),
+            Piece::Count(summary.states, b"state"),
             Piece::Bytes(b", "),
             Piece::Number(seconds),
             Piece::Bytes(point),
@@ -253,7 +256,7 @@ fn put_ignored(text: &mut Vec<u8>, findings: &Findings<'_>) -> Result<(), NoMemo
             Piece::Bytes(b" before "),
         ],
     )?;
-    put_time(text, findings.machine, findings.told.from)?;
+    put_time(text, findings.machine, findings.summary.from)?;
     put(text, b" passed over.\n")
 }
 
@@ -262,5 +265,5 @@ pub fn put_summary(text: &mut Vec<u8>, findings: &Findings<'_>) -> Result<(), No
     put_ignored(text, findings)?;
     put_found(text, findings)?;
     put_seen(text, findings)?;
-    put_cost(text, findings.told)
+    put_cost(text, findings.summary)
 }

@@ -2,7 +2,7 @@
 
 use crate::apart::apart_of;
 use crate::place::Sources;
-use crate::waivers::{Spot, Waiver, WaiverScope};
+use crate::waivers::{LinePlace, Waiver, WaiverScope};
 use basis::NoMemory;
 use cause::{Blamed, Cause};
 use explore::FoundMark;
@@ -116,17 +116,22 @@ fn is_of_variables(
 }
 
 // Whether the statement stands in that line.
-fn stands_at(sources: &Sources<'_>, blamed: &Blamed, spot: &Spot<'_>) -> bool {
+fn stands_at(sources: &Sources<'_>, blamed: &Blamed, there: &LinePlace<'_>) -> bool {
     match sources.place(blamed.statement) {
         None => false,
         Some(place) => {
-            place.line as u64 == spot.line && sources.name(place.file).as_bytes() == spot.file
+            place.line as u64 == there.line && sources.name(place.file).as_bytes() == there.file
         }
     }
 }
 
 // Whether the two statements stand in those two lines.
-fn is_of_lines(sources: &Sources<'_>, cause: &Cause, one: &Spot<'_>, other: &Spot<'_>) -> bool {
+fn is_of_lines(
+    sources: &Sources<'_>,
+    cause: &Cause,
+    one: &LinePlace<'_>,
+    other: &LinePlace<'_>,
+) -> bool {
     let (first, second) = (&cause.first, &cause.second);
     (stands_at(sources, first, one) && stands_at(sources, second, other))
         || (stands_at(sources, first, other) && stands_at(sources, second, one))

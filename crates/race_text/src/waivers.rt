@@ -6,7 +6,7 @@ use std::alloc::Global;
 
 /// A line of a file, as a waiver names it.
 #[derive(Clone, Copy)]
-pub struct Spot<'w> {
+pub struct LinePlace<'w> {
     pub file: &'w [u8],
     pub line: u64,
 }
@@ -14,7 +14,7 @@ pub struct Spot<'w> {
 /// What a waiver is of: a cause by the lines of its two statements, or causes by the variables that differ.
 #[derive(Clone, Copy)]
 pub enum WaiverScope<'w> {
-    Lines(Spot<'w>, Spot<'w>),
+    Lines(LinePlace<'w>, LinePlace<'w>),
     Variables(&'w [u8]),
 }
 
@@ -76,11 +76,11 @@ fn colon_in(word: &[u8]) -> Option<usize> {
 }
 
 // `FILE:LINE`, the line from 1.
-fn spot_of(word: &[u8]) -> Option<Spot<'_>> {
+fn line_place_of(word: &[u8]) -> Option<LinePlace<'_>> {
     let (file, rest) = split_at_place(word, colon_in(word)?);
     let (_, digits) = rest.split_first()?;
     match number_in(digits) {
-        Some(line) if line > 0 && !file.is_empty() => Some(Spot { file, line }),
+        Some(line) if line > 0 && !file.is_empty() => Some(LinePlace { file, line }),
         _ => None,
     }
 }
@@ -93,7 +93,7 @@ fn scope_of<'w>(first: &'w [u8], second: &'w [u8]) -> Option<WaiverScope<'w>> {
         }
         return Some(WaiverScope::Variables(second));
     }
-    Some(WaiverScope::Lines(spot_of(first)?, spot_of(second)?))
+    Some(WaiverScope::Lines(line_place_of(first)?, line_place_of(second)?))
 }
 
 // The waiver that the line of this number is.

@@ -8,7 +8,7 @@ use crate::difference::{
 use crate::facts::Facts;
 use crate::pieces::{Piece, put, put_all};
 use crate::statements::{put_ending, put_statements};
-use crate::summary::{Findings, NAMED, Told, put_summary};
+use crate::summary::{Findings, NAMED, SearchSummary, put_summary};
 use crate::time::put_time;
 use crate::waivers::Waiver;
 use basis::NoMemory;
@@ -209,7 +209,7 @@ fn put_head(
 // The race of this place: its head, in which order each side comes about, and what follows. The commands that replay them end so.
 fn text_of(
     alloc: Global,
-    told: Told,
+    summary: SearchSummary,
     waiver: Option<&Waiver<'_>>,
     subject: Subject<'_>,
     place: usize,
@@ -219,9 +219,9 @@ fn text_of(
     let rows = rows_of(alloc, subject)?;
     put_head(alloc, &mut text, waiver, subject, place, &rows)?;
     put_sides(&mut text, subject, &rows, behind)?;
-    put_others(&mut text, subject, told.named_count())?;
+    put_others(&mut text, subject, summary.named_count())?;
     put_cure(&mut text, subject)?;
-    put_more(&mut text, subject.machine, subject.group, told.all)?;
+    put_more(&mut text, subject.machine, subject.group, summary.all)?;
     Ok(text)
 }
 
@@ -233,8 +233,8 @@ pub fn groups_texts(alloc: Global, findings: &Findings<'_>) -> Result<Vec<Vec<u8
         let facts = Facts::new(alloc, findings.machine, group)?;
         let subject = findings.subject(group, &facts);
         let waiver = findings.waiver(place);
-        let told = *findings.told;
-        texts.push(text_of(alloc, told, waiver, subject, place, &behind)?)?;
+        let summary = *findings.summary;
+        texts.push(text_of(alloc, summary, waiver, subject, place, &behind)?)?;
     }
     Ok(texts)
 }
@@ -252,8 +252,8 @@ pub fn put_races(
     text: &mut Vec<u8>,
     findings: &Findings<'_>,
 ) -> Result<(), NoMemory> {
-    for told in groups_texts(alloc, findings)? {
-        put(text, &told)?;
+    for group in groups_texts(alloc, findings)? {
+        put(text, &group)?;
     }
     put_summary(text, findings)
 }

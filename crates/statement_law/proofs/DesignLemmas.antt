@@ -27,7 +27,7 @@ use Rattle.velab_expr.specs.Resolved.{lower_expression}
 use Rattle.velab_process.specs.Connections.{lower_input, lower_output, one_process, lower_join, lower_joins}
 use Rattle.velab_process.specs.Processes.{Processes, lower_items}
 use Rattle.velab_process.specs.Statements.{Table}
-use Rattle.vhierarchy.specs.Instances.{unless_word, broken_ports, unless_fault, top_whole, value_unless_fault, Part, Context, Instantiation, lower_names, lower_instances, lower_own_processes, with_own, few_enough, lower_own_variables, lower_own, child_context, each, elaborate_instance, nothing, no_scope, top_context, elaborate_top, Whole, design_by, broken_design, whole_of, elaborated_whole, elaborated, Elaborates}
+use Rattle.vhierarchy.specs.Instances.{unless_word, broken_ports, unless_fault, top_whole, value_unless_fault, PartialDesign, Context, Instantiation, lower_names, lower_instances, lower_own_processes, with_own, few_enough, lower_own_variables, lower_own, child_context, each, elaborate_instance, nothing, no_scope, top_context, elaborate_top, Whole, design_by, broken_design, whole_of, elaborated_whole, elaborated, Elaborates}
 use Rattle.vmodel.specs.Step.{frames}
 use Rattle.vmodel.specs.Run.{Setting, state_after}
 use Rattle.statement_law.specs.RunLaws.{IsSomewhere}
@@ -55,9 +55,9 @@ told_required : {A : Type 0} (P : A → Type 0) (holds : Bool) (rule : Rule) (wo
 told_required P true rule word x told = told
 told_required P false rule word x told = tt
 
-told_few : (P : Part → Type 0) (name : Word) (part : Part) → P part → Told P (few_enough name part)
+told_few : (P : PartialDesign → Type 0) (name : Word) (part : PartialDesign) → P part → Told P (few_enough name part)
 told_few P name part told =
-    let answer : Result Part ElabFault = require (nat_le (length part.scopes) 1025) rules.TooMany (Some name) part in
+    let answer : Result PartialDesign ElabFault = require (nat_le (length part.scopes) 1025) rules.TooMany (Some name) part in
     told_provided P (nat_le (length part.begins) 256) rules.TooMany (Some name) answer
     (told_required P (nat_le (length part.scopes) 1025) rules.TooMany (Some name) part told)
 
@@ -66,9 +66,9 @@ told_joined : {A B C : Type 0} (P : C → Type 0) (answer : Result A ElabFault) 
 told_joined P (Ok x) next last told = told
 told_joined P (Err fault) next last told = tt
 
-told_barring : {A : Type 0} (P : A → Type 0) (word : Option Word) (rule : Rule) (answer : Result A ElabFault) → Told P answer → Told P (unless_word word rule answer)
-told_barring P None rule answer told = told
-told_barring P (Some word) rule answer told = tt
+fault_barring : {A : Type 0} (P : A → Type 0) (word : Option Word) (rule : Rule) (answer : Result A ElabFault) → Told P answer → Told P (unless_word word rule answer)
+fault_barring P None rule answer told = told
+fault_barring P (Some word) rule answer told = tt
 
 told_unbroken : {A : Type 0} (P : A → Type 0) (broken : Option ElabFault) (answer : Result A ElabFault) → Told P answer → Told P (unless_fault broken answer)
 told_unbroken P None answer told = told
@@ -145,13 +145,13 @@ module _ (actions : List Action) where
 
   -- ---- what an instance adds
 
-  record Adds (part : Part) (begins : List Begin) (next : Part) : Type 0 where
+  record Adds (part : PartialDesign) (begins : List Begin) (next : PartialDesign) : Type 0 where
     grows : IsFront part.table.actions next.table.actions
     places : List (List ℕ)
     whole : next.begins ≡ part.begins ++ places
     stand : IsFront next.table.actions actions → AllStand actions begins places
 
-  adds_both : (part middle last : Part) (ones others : List Begin) → Adds part ones middle → Adds middle others last → Adds part (ones ++ others) last
+  adds_both : (part middle last : PartialDesign) (ones others : List Begin) → Adds part ones middle → Adds middle others last → Adds part (ones ++ others) last
   adds_both part middle last ones others first second = record {
     grows = front_of_front part.table.actions middle.table.actions last.table.actions first.grows second.grows;
     places = first.places ++ second.places;
@@ -159,37 +159,37 @@ module _ (actions : List Action) where
     stand = (λ front. both_stand actions ones others first.places second.places (first.stand (front_of_front middle.table.actions last.table.actions actions second.grows front)) (second.stand front));
   }
 
-  own_adds : (context : Context) (scope : Scope) (part : Part) →
+  own_adds : (context : Context) (scope : Scope) (part : PartialDesign) →
       Told (Adds part (own_begins context scope)) (lower_own context (ports_of context.unit) scope part)
   own_adds context scope part =
-      let P : Part → Type 0 = Adds part (own_begins context scope) in
+      let P : PartialDesign → Type 0 = Adds part (own_begins context scope) in
       told_next P (lower_own_variables context (ports_of context.unit) scope) _ (λ variables is.
       told_then (Joined part.table (own_begins context scope)) P (lower_own_processes context (ports_of context.unit) scope part.table) _ (own_stands context scope part.table) (λ processes joined.
       told_few P context.name (with_own context scope part variables processes)
       (record { grows = joined.grows; places = processes.begins; whole = refl; stand = joined.stand })))
 
-  module _ (step : Part → Instantiation → Result Part ElabFault) (begins : Part → Instantiation → List Begin)
-      (one_adds : (part : Part) (one : Instantiation) → Told (Adds part (begins part one)) (step part one)) where
-    each_adds : (part : Part) (list : List Instantiation) → Told (Adds part (begins_each step begins part list)) (each step part list)
+  module _ (step : PartialDesign → Instantiation → Result PartialDesign ElabFault) (begins : PartialDesign → Instantiation → List Begin)
+      (one_adds : (part : PartialDesign) (one : Instantiation) → Told (Adds part (begins part one)) (step part one)) where
+    each_adds : (part : PartialDesign) (list : List Instantiation) → Told (Adds part (begins_each step begins part list)) (each step part list)
     each_adds part [] = record { grows = front_of_itself part.table.actions; places = []; whole = sym (append-nil part.begins); stand = (λ front. tt) }
     each_adds part (one ∷ more) =
-        let next : Part = value_or part (step part one) in
+        let next : PartialDesign = value_or part (step part one) in
         let others : List Begin = begins_each step begins next more in
         told_known (Adds part (begins part one ++ others)) part (step part one) _ (λ is.
         told_by (Adds next others) (Adds part (begins part one ++ others)) (each step next more) (each_adds next more) (λ last same second.
         adds_both part next last (begins part one) others (told_of (Adds part (begins part one)) (step part one) next is (one_adds part one)) second))
 
-  instance_adds : (levels : ℕ) (modules : SourceTree) (part : Part) (context : Context) →
+  instance_adds : (levels : ℕ) (modules : SourceTree) (part : PartialDesign) (context : Context) →
       Told (Adds part (begins_below levels modules part context)) (elaborate_instance levels modules part context)
   instance_adds zero modules part context = tt
   instance_adds (suc levels) modules part context =
       let scope : Scope = value_or no_scope (lower_names part context) in
       let children : List Instantiation = value_or [] (lower_instances modules 0 scope.known context.unit.items) in
-      let own : Part = value_or part (lower_own context (ports_of context.unit) scope part) in
-      let step : Part → Instantiation → Result Part ElabFault = λ so_far child. elaborate_instance levels modules so_far (child_context scope context child) in
-      let begins : Part → Instantiation → List Begin = λ so_far child. begins_below levels modules so_far (child_context scope context child) in
+      let own : PartialDesign = value_or part (lower_own context (ports_of context.unit) scope part) in
+      let step : PartialDesign → Instantiation → Result PartialDesign ElabFault = λ so_far child. elaborate_instance levels modules so_far (child_context scope context child) in
+      let begins : PartialDesign → Instantiation → List Begin = λ so_far child. begins_below levels modules so_far (child_context scope context child) in
       let others : List Begin = begins_each step begins own children in
-      let P : Part → Type 0 = Adds part (own_begins context scope ++ others) in
+      let P : PartialDesign → Type 0 = Adds part (own_begins context scope ++ others) in
       told_known P no_scope (lower_names part context) _ (λ named.
       told_known P [] (lower_instances modules 0 scope.known context.unit.items) _ (λ listed.
       told_known P part (lower_own context (ports_of context.unit) scope part) _ (λ is.
@@ -222,7 +222,7 @@ design_begins modules top scale design is =
     let P : Design → Type 0 = λ d. AllStand d.actions (begins_of_top modules (top_of modules top)) d.processes in
     told_of P (elaborated modules top scale) design is
     (told_then (WholeStands modules (top_of modules top)) P (elaborated_whole modules top) (λ whole. Ok (design_by scale whole.unit whole.part))
-    (told_barring (WholeStands modules (top_of modules top)) (first_again (module_names modules)) _ _
+    (fault_barring (WholeStands modules (top_of modules top)) (first_again (module_names modules)) _ _
     (told_unbroken (WholeStands modules (top_of modules top)) (broken_ports modules) (top_whole modules top) (found_stands modules (top_of modules top) _ _)))
     (λ whole stand. stand))
 

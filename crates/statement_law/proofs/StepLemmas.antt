@@ -23,7 +23,7 @@ use Rattle.vmodel.specs.Value.{assigned_parts}
 use Rattle.vmodel.specs.declared.process.Frame.{Frame}
 use Rattle.vmodel.specs.declared.process.Frame.TheVariants.{Executing, Repeating, Writing}
 use Rattle.vmodel.specs.Step.{StepResult, frames, turns_left, execute, execute_at, place_of, pieces_of}
-use Rattle.statement_law.specs.TreeSteps.{takes_step, Pending, executing, repeating, writing, driving, waits, line, monitor, selection, nothing, TreeStep, before, turns_before, amount_of, terms_of, line_for, does, calls, prints, dumps_by, IsStep, GoesOn}
+use Rattle.statement_law.specs.TreeSteps.{takes_step, Pending, executing, repeating, writing, driving, waits, line, monitor, selection, nothing, TreeStep, before, turns_before, amount_of, terms_of, line_for, execute_pending, calls, prints, dumps_by, IsStep, GoesOn}
 use Rattle.statement_law.specs.Standing.{Stands, StandsAt, StandAt, terms_in, selection_in}
 use Rattle.statement_law.specs.Laws.{Tells, HasTreeStep, HasPlaceStep}
 use Rattle.statement_law.proofs.LayoutLemmas.{HasBody, Laid, task_action}
@@ -35,7 +35,7 @@ module _ (scope : Scope) (now : Environment) (held : Option Vector) (actions : L
   record Does (first : Pending) (rest : List Pending) (frame : Frame) (after : List Frame) : Type 0 where
     action : Action
     there : slice_get actions (place_of frame) ≡ Some action
-    tells : Tells scope actions (does scope now held first rest) (execute_at frame action after held now)
+    tells : Tells scope actions (execute_pending scope now held first rest) (execute_at frame action after held now)
 
   -- one of two
   chosen : (test : Bool) (one other : List Pending) (frames_one frames_other : List Frame) → StandAt scope actions one frames_one → StandAt scope actions other frames_other →
@@ -239,7 +239,7 @@ module _ (scope : Scope) (now : Environment) (held : Option Vector) (actions : L
   follows_trees [] frame after stand = absurd stand
   follows_trees (first ∷ rest) frame after stand =
       let made : Does first rest frame after = does_first rest after stand.1 first frame stand.0 in
-      record { action = made.action; there = made.there; step = does scope now held first rest; goes_on = (is_step rest after stand.1 first frame stand.0, refl); tells = made.tells }
+      record { action = made.action; there = made.there; step = execute_pending scope now held first rest; goes_on = (is_step rest after stand.1 first frame stand.0, refl); tells = made.tells }
 
   pub follows_places : (pending : List Pending) (left : List Frame) (step : TreeStep) → StandAt scope actions pending left → GoesOn scope now held pending step →
       HasPlaceStep scope now held actions step left

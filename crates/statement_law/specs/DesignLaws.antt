@@ -17,7 +17,7 @@ use Rattle.velab_expr.specs.Answers.{value_or}
 use Rattle.velab_expr.specs.Scopes.{Scope}
 use Rattle.velab_expr.specs.Written.{target_of}
 use Rattle.vmodel.specs.Run.{Setting, state_after}
-use Rattle.vhierarchy.specs.Instances.{Part, Context, Instantiation, lower_names, lower_instances, lower_own, child_context, elaborate_instance, nothing, no_scope, top_context, Elaborates}
+use Rattle.vhierarchy.specs.Instances.{PartialDesign, Context, Instantiation, lower_names, lower_instances, lower_own, child_context, elaborate_instance, nothing, no_scope, top_context, Elaborates}
 use Rattle.statement_law.specs.TreeSteps.{driving}
 use Rattle.statement_law.specs.RunLaws.{IsSomewhere}
 use Rattle.statement_law.specs.Laws.{Begin, begins_in, AllStand}
@@ -50,12 +50,12 @@ own_begins context scope =
     joins_begin context.overrides.scope scope context.connections (ports_of context.unit) ++ begins_in scope (placed_items context.path context.unit)
 
 -- of one instance after another, each behind what stands before
-abbrev pub begins_each : (Part → Instantiation → Result Part ElabFault) → (Part → Instantiation → List Begin) → Part → List Instantiation → List Begin
+abbrev pub begins_each : (PartialDesign → Instantiation → Result PartialDesign ElabFault) → (PartialDesign → Instantiation → List Begin) → PartialDesign → List Instantiation → List Begin
 begins_each step begins part [] = []
 begins_each step begins part (one ∷ more) = begins part one ++ begins_each step begins (value_or part (step part one)) more
 
 -- its own first, then those of the instances in it, in the order of the text
-abbrev pub begins_below : ℕ → SourceTree → Part → Context → List Begin
+abbrev pub begins_below : ℕ → SourceTree → PartialDesign → Context → List Begin
 begins_below zero modules part context = []
 begins_below (suc levels) modules part context =
     let scope = value_or no_scope (lower_names part context) in

@@ -210,48 +210,48 @@ calls scope (dump kind) rest = dumps_by kind rest
 calls scope (end_run stops digits) rest = ends (if stops then causes.Stop else causes.Finish) rest
 
 -- what a process does in a scope at a moment that stands before this and then before the rest, with the value that it holds
-abbrev pub does : Scope → Environment → Option Vector → Pending → List Pending → TreeStep
+abbrev pub execute_pending : Scope → Environment → Option Vector → Pending → List Pending → TreeStep
 -- 9.2.1
-does scope now held (executing (assign target None value)) rest = writes (assigned_parts now (row_of scope target) (known_expression scope value)) rest
+execute_pending scope now held (executing (assign target None value)) rest = writes (assigned_parts now (row_of scope target) (known_expression scope value)) rest
 -- 9.2.2
-does scope now held (executing (nonblocking target None value)) rest =
+execute_pending scope now held (executing (nonblocking target None value)) rest =
     posts (post_after 0 (assigned_parts now (row_of scope target) (known_expression scope value))) rest
 -- 9.7.7: it takes the value, sleeps, and then writes it
-does scope now held (executing (assign target (Some amount) value)) rest = record {
+execute_pending scope now held (executing (assign target (Some amount) value)) rest = record {
   effect = record nothing {
     held = Some (held_value now (row_of scope target) (known_expression scope value));
     suspension = sleeps (delay_of now (amount_of scope amount));
   };
   next = writing target amount value ∷ rest;
 }
-does scope now held (writing target amount value) rest = writes (resumed_parts now (row_of scope target) held) rest
-does scope now held (executing (nonblocking target (Some amount) value)) rest =
+execute_pending scope now held (writing target amount value) rest = writes (resumed_parts now (row_of scope target) held) rest
+execute_pending scope now held (executing (nonblocking target (Some amount) value)) rest =
     posts (post_after (delay_of now (amount_of scope amount)) (assigned_parts now (row_of scope target) (known_expression scope value))) rest
 -- 9.7.3
-does scope now held (executing (trigger letters)) rest = record { effect = record nothing { triggered = Some (event_of scope letters) }; next = rest }
+execute_pending scope now held (executing (trigger letters)) rest = record { effect = record nothing { triggered = Some (event_of scope letters) }; next = rest }
 -- 9.4
-does scope now held (executing (if_true condition body)) rest = moves (if holds now (known_expression scope condition) then before body rest else rest)
-does scope now held (executing (if_else condition body other)) rest =
+execute_pending scope now held (executing (if_true condition body)) rest = moves (if holds now (known_expression scope condition) then before body rest else rest)
+execute_pending scope now held (executing (if_else condition body other)) rest =
     moves (if holds now (known_expression scope condition) then before body rest else before other rest)
 -- 9.5
-does scope now held (executing (case_of kind value branches)) rest =
+execute_pending scope now held (executing (case_of kind value branches)) rest =
     moves (chosen_before now kind (known_expression scope value) (choices_of scope branches) rest (default_before branches rest))
 -- 9.6
-does scope now held (executing (while_true condition body)) rest =
+execute_pending scope now held (executing (while_true condition body)) rest =
     moves (if holds now (known_expression scope condition) then before body (executing (while_true condition body) ∷ rest) else rest)
-does scope now held (executing (repeat_times count body)) rest = moves (turns_before (turns_of now (known_expression scope count)) count body rest)
-does scope now held (repeating n count body) rest = moves (before body (turns_before (n - 1) count body rest))
-does scope now held (executing (forever body)) rest = moves (before body (executing (forever body) ∷ rest))
+execute_pending scope now held (executing (repeat_times count body)) rest = moves (turns_before (turns_of now (known_expression scope count)) count body rest)
+execute_pending scope now held (repeating n count body) rest = moves (before body (turns_before (n - 1) count body rest))
+execute_pending scope now held (executing (forever body)) rest = moves (before body (executing (forever body) ∷ rest))
 -- 9.7.1
-does scope now held (executing (delay amount body)) rest = suspends (sleeps (delay_of now (amount_of scope amount))) (before body rest)
+execute_pending scope now held (executing (delay amount body)) rest = suspends (sleeps (delay_of now (amount_of scope amount))) (before body rest)
 -- 9.7.2
-does scope now held (executing (event control body)) rest = suspends (waits (terms_of scope control body)) (before body rest)
+execute_pending scope now held (executing (event control body)) rest = suspends (waits (terms_of scope control body)) (before body rest)
 -- 9.7.6: where the condition doesn't hold, it waits until a variable in it changes, and tests once more
-does scope now held (executing (wait_for condition body)) rest =
+execute_pending scope now held (executing (wait_for condition body)) rest =
     if holds now (known_expression scope condition) then moves (before body rest)
     else suspends (waits (any_of scope (names_in condition))) (executing (wait_for condition body) ∷ rest)
 -- 6.1, 11.6.1: it writes, waits for a change of what is read, and writes again
-does scope now held (driving outside target inside value) rest = record {
+execute_pending scope now held (driving outside target inside value) rest = record {
   effect = record nothing {
     wrote = assigned_parts now (net_row_of outside target) (known_expression inside value);
     suspension = waits (any_of inside (names_in value));
@@ -259,9 +259,9 @@ does scope now held (driving outside target inside value) rest = record {
   next = driving outside target inside value ∷ rest;
 }
 -- clauses 17 and 18
-does scope now held (executing (task call)) rest = calls scope call rest
+execute_pending scope now held (executing (task call)) rest = calls scope call rest
 -- the others take no step
-does scope now held (executing statement) rest = moves (before statement rest)
+execute_pending scope now held (executing statement) rest = moves (before statement rest)
 
 abbrev pub IsStep : Pending → Type 0
 IsStep (executing statement) = takes_step statement ≡ true
@@ -270,4 +270,4 @@ IsStep _ = Unit {0}
 -- a process that stands before these goes on so
 abbrev pub GoesOn : Scope → Environment → Option Vector → List Pending → TreeStep → Type 0
 GoesOn scope now held [] step = ⊥
-GoesOn scope now held (first ∷ rest) step = IsStep first × (does scope now held first rest ≡ step)
+GoesOn scope now held (first ∷ rest) step = IsStep first × (execute_pending scope now held first rest ≡ step)

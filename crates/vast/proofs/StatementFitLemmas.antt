@@ -9,7 +9,7 @@ use Rattle.vast.specs.Statements.{TargetTree, whole, bit, part, joined, TargetTr
 use Rattle.vast.specs.StatementTrees.{argument_tree, task_tree, target_tree, target_trees, statement_tree, statement_trees, branch_trees}
 use Rattle.vast.specs.ExpressionTrees.{tree_of, boxed_tree}
 use Rattle.vast.specs.Modules.{fits_value, fits_body}
-use Rattle.vast.specs.Within.{target_stands, targets_stand, target_within, argument_within, arguments_within, task_within, case_within, setting_within, assignment_within, statement_stands, statements_stand, branch_stands, branches_stand, own_within, inner_stands}
+use Rattle.vast.specs.Within.{target_stands, targets_stand, target_within, argument_within, arguments_within, task_within, case_within, setting_within, assignment_within, statement_stands, statements_stand, branch_stands, branches_stand, own_parts_stand, inner_stands}
 use Rattle.vast.specs.declared.expression.Expression.{Expression}
 use Rattle.vast.specs.declared.statement.CaseKind.{CaseKind}
 use Rattle.vast.specs.declared.statement.Printing.{Printing}
@@ -125,7 +125,7 @@ named : (n : ℕ) (a : Bool) → (nat_le 1 n && ((nat_le 1 (n - 1) && a) && true
 named n a = grind (arith, nat_tests)
 
 -- what stands in a statement itself, and the statements in it
-both_parts : (n : ℕ) (tree : StatementTree) → (nat_le 1 n && (own_within (n - 1) tree && inner_stands (n - 1) tree)) ≡ statement_stands n tree
+both_parts : (n : ℕ) (tree : StatementTree) → (nat_le 1 n && (own_parts_stand (n - 1) tree && inner_stands (n - 1) tree)) ≡ statement_stands n tree
 both_parts n empty = and-true (nat_le 1 n)
 both_parts n (block label list) = refl
 both_parts n (assign target amount value) = ap (λ b. nat_le 1 n && b) (and-true (assignment_within (n - 1) target amount value))
@@ -145,8 +145,8 @@ both_parts n (delay amount body) = refl
 both_parts n (event control body) = refl
 both_parts n (task call) = ap (λ b. nat_le 1 n && b) (and-true (task_within (n - 1) call))
 
-pub parts_stand : (n : ℕ) (tree : StatementTree) → n ≢ 0 → (own_within (n - 1) tree && inner_stands (n - 1) tree) ≡ statement_stands n tree
-parts_stand n tree positive = some_level n (own_within (n - 1) tree && inner_stands (n - 1) tree) positive ∙ both_parts n tree
+pub parts_stand : (n : ℕ) (tree : StatementTree) → n ≢ 0 → (own_parts_stand (n - 1) tree && inner_stands (n - 1) tree) ≡ statement_stands n tree
+parts_stand n tree positive = some_level n (own_parts_stand (n - 1) tree && inner_stands (n - 1) tree) positive ∙ both_parts n tree
 
 mutual
   pub statement_stands_is : (n : ℕ) (tree : StatementTree) → statement_stands n tree ≡ fits_body n tree
@@ -256,8 +256,8 @@ module _ (words : List Text) where
         ∙ sym (ap (target_stands n) (ap (target_tree words) is ∙ tree_of_joined at targets))
 
   pub block_name : (e : Statement) (n : ℕ) (label : Option Token) (list : Vec Statement Global) → e ≡ Block label list →
-      fits_block_name (option_map (token_text words) label) ≡ own_within n (statement_tree words e)
-  block_name e n label list is = sym (ap (own_within n) (ap (statement_tree words) is ∙ tree_of_whole_block words label list))
+      fits_block_name (option_map (token_text words) label) ≡ own_parts_stand n (statement_tree words e)
+  block_name e n label list is = sym (ap (own_parts_stand n) (ap (statement_tree words) is ∙ tree_of_whole_block words label list))
 
   pub block_inner : (e : Statement) (n : ℕ) (label : Option Token) (list : Vec Statement Global) (items : List Statement) → e ≡ Block label list →
       items ≡ list.items → statements_stand n (statement_trees words items) ≡ inner_stands n (statement_tree words e)
@@ -270,8 +270,8 @@ module _ (words : List Text) where
     whole_case = ap (statement_tree words) is ∙ tree_of_case words at kind value branches
 
     pub case_head : (amount : Expression) → amount ≡ value.value →
-        case_within n (tree_of words amount) (branch_trees words items) ≡ own_within n (statement_tree words e)
-    case_head amount valued = (λ i. case_within n (tree_of words (valued i)) (branch_trees words (same i))) ∙ sym (ap (own_within n) whole_case)
+        case_within n (tree_of words amount) (branch_trees words items) ≡ own_parts_stand n (statement_tree words e)
+    case_head amount valued = (λ i. case_within n (tree_of words (valued i)) (branch_trees words (same i))) ∙ sym (ap (own_parts_stand n) whole_case)
 
     pub case_inner : branches_stand n (branch_trees words items) ≡ inner_stands n (statement_tree words e)
     case_inner = ap (λ (xs : List Branch). branches_stand n (branch_trees words xs)) same ∙ sym (ap (inner_stands n) whole_case)

@@ -133,24 +133,24 @@ abbrev mutual
 -- a statement in two parts, with so many levels below it
 
 -- what stands in it, but for the statements in it, the labels of a case's branches, and what a `for` assigns after its body
-abbrev pub own_within : ℕ → StatementTree → Bool
-own_within levels empty = true
-own_within levels (block label list) = fits_block_name label
-own_within levels (assign target amount value) = assignment_within levels target amount value
-own_within levels (nonblocking target amount value) = assignment_within levels target amount value
-own_within levels (trigger letters) = nat_le 1 levels && is_name letters
-own_within levels (if_true condition body) = fits_value levels condition
-own_within levels (if_else condition body other) = fits_value levels condition
-own_within levels (case_of kind value branches) = case_within levels value branches
-own_within levels (while_true condition body) = fits_value levels condition
-own_within levels (repeat_times count body) = fits_value levels count
-own_within levels (forever body) = true
-own_within levels (for_loop target value condition next_target next_value body) =
+abbrev pub own_parts_stand : ℕ → StatementTree → Bool
+own_parts_stand levels empty = true
+own_parts_stand levels (block label list) = fits_block_name label
+own_parts_stand levels (assign target amount value) = assignment_within levels target amount value
+own_parts_stand levels (nonblocking target amount value) = assignment_within levels target amount value
+own_parts_stand levels (trigger letters) = nat_le 1 levels && is_name letters
+own_parts_stand levels (if_true condition body) = fits_value levels condition
+own_parts_stand levels (if_else condition body other) = fits_value levels condition
+own_parts_stand levels (case_of kind value branches) = case_within levels value branches
+own_parts_stand levels (while_true condition body) = fits_value levels condition
+own_parts_stand levels (repeat_times count body) = fits_value levels count
+own_parts_stand levels (forever body) = true
+own_parts_stand levels (for_loop target value condition next_target next_value body) =
     setting_within levels target value && fits_value levels condition
-own_within levels (wait_for condition body) = fits_value levels condition
-own_within levels (delay amount body) = delay_within levels amount
-own_within levels (event control body) = event_within levels control
-own_within levels (task call) = task_within levels call
+own_parts_stand levels (wait_for condition body) = fits_value levels condition
+own_parts_stand levels (delay amount body) = delay_within levels amount
+own_parts_stand levels (event control body) = event_within levels control
+own_parts_stand levels (task call) = task_within levels call
 
 -- the statements in it, with the labels of a case's branches, and with what a `for` assigns after its body; before an `else` none ends
 -- in an `if` without one

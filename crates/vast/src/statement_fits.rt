@@ -7,7 +7,7 @@ ghost use Rattle.vast.specs.TokenTexts.{texts};
 ghost use Rattle.vast.specs.ExpressionTrees.{tree_of};
 ghost use Rattle.vast.specs.Statements.{ends_in_if as tree_ends_in_if, is_some_branch as is_some_tree, defaults, is_default as is_default_tree};
 ghost use Rattle.vast.specs.StatementTrees.{statement_tree, statement_trees, branch_tree, branch_trees};
-ghost use Rattle.vast.specs.Within.{statement_stands as tree_stands, statements_stand as trees_stand, branch_stands as branch_tree_stands, branches_stand as branch_trees_stand, case_within, own_within, inner_stands};
+ghost use Rattle.vast.specs.Within.{statement_stands as tree_stands, statements_stand as trees_stand, branch_stands as branch_tree_stands, branches_stand as branch_trees_stand, case_within, own_parts_stand, inner_stands};
 ghost use Rattle.vast.specs.Modules.{fits_body};
 
 use crate::expression::Expression;
@@ -79,7 +79,7 @@ fn case_fits(words: &[&[u8]], value: &Expression, branches: &[Branch], levels: u
 // Whether what stands in a statement fits, with so many levels below it: but for the statements in it, the labels of a case's branches,
 // and what a `for` assigns after its body.
 fn own_parts_fit(words: &[&[u8]], statement: &Statement, below: u32) -> bool
-    ensures { result ≡ own_within below (statement_tree (texts words.now) statement.now) }
+    ensures { result ≡ own_parts_stand below (statement_tree (texts words.now) statement.now) }
 {
     match statement {
         Statement::Empty | Statement::Forever { .. } => true,

@@ -21,7 +21,7 @@ use Rattle.vdesign.specs.declared.design.Kind.TheVariants.{Reg, Integer, Wire, T
 use Rattle.vdesign.specs.Design.{Variable}
 use Rattle.vcd_read.specs.Words.{Text, words_of}
 use Rattle.vcd_read.specs.Timescale.{count_of, span_of_parts, unit_of}
-use Rattle.vcd_read.specs.Declarations.{HaveNoEnd, variable_with, end_word, Declares, note, scope, timescale, upscope, variable}
+use Rattle.vcd_read.specs.Declarations.{HaveNoEnd, declared_variable, end_word, Declares, note, scope, timescale, upscope, variable}
 use Rattle.vcd_read.specs.Declarations as declarations
 use Rattle.vcd_text.specs.DumpText.{bounds_text, closings, code, identifier, kind_word, line, scope_line, timescale_line, variable_line, variable_lines}
 use Rattle.vcd_law.specs.Headers.{AreNamed, AreSmall, IsNamed, IsWord, Plain, all_seen, inmost, inner, own_name, variable_seen}
@@ -206,7 +206,7 @@ lead_variable prefixes n v named before = record {
       (record { name = text; width = v.length; code = code n } ∷ more)) name
       (subst (λ (ws : List Text). Declares before (inmost prefixes) (outer prefixes)
       (codes "$var" ∷ kind_word v.kind ∷ decimal v.length ∷ code n ∷ identifier (own_name v) ∷ ws) unit
-      (variable_with (inmost prefixes) (identifier (own_name v)) v.length (code n) ∷ more)) (sym (append_assoc range (end_word ∷ []) rest))
+      (declared_variable (inmost prefixes) (identifier (own_name v)) v.length (code n) ∷ more)) (sym (append_assoc range (end_word ∷ []) rest))
       (variable before unit (inmost prefixes) (outer prefixes) (kind_word v.kind) (decimal v.length) (code n) (identifier (own_name v)) range rest v.length more
       (decimal_is v.length named.length) (no_end_range v.bounds) d));
 }

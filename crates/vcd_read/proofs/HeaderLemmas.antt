@@ -5,7 +5,7 @@ use Rattle.basis.specs.declared.timescale.Span.{Span}
 use Rattle.vcd_read.specs.Words.{Text}
 use Rattle.vcd_read.specs.Numbers.{IsDecimal}
 use Rattle.vcd_read.specs.Timescale.{span_in}
-use Rattle.vcd_read.specs.Declarations.{Variable, Declares, done, note, scope, timescale, upscope, variable, is_note, HaveNoEnd, end_word, variable_with}
+use Rattle.vcd_read.specs.Declarations.{Variable, Declares, done, note, scope, timescale, upscope, variable, is_note, HaveNoEnd, end_word, declared_variable}
 use Rattle.vcd_read.specs.Declaring.{Lead, all_seen, outer_of}
 use Rattle.vcd_read.specs.declared.header.Header.{Header}
 use Rattle.vcd_read.specs.declared.header.VcdVariable.{VcdVariable}
@@ -41,14 +41,14 @@ lead_upscope old new q o same = record {
 
 pub lead_variable : (old new : Header) (kind size code reference : Text) (range : List Text) (width : ℕ) → IsDecimal size width → HaveNoEnd range →
     new.prefix.items ≡ old.prefix.items → outer_of new ≡ outer_of old → new.unit ≡ old.unit →
-    all_seen new.variables.items ≡ all_seen old.variables.items ++ variable_with old.prefix.items reference width code ∷ [] →
+    all_seen new.variables.items ≡ all_seen old.variables.items ++ declared_variable old.prefix.items reference width code ∷ [] →
     Lead (codes "$var" ∷ kind ∷ size ∷ code ∷ reference ∷ (range ++ end_word ∷ [])) old new
 lead_variable old new kind size code reference range width number without p q o added = record {
-  variables = variable_with old.prefix.items reference width code ∷ [];
+  variables = declared_variable old.prefix.items reference width code ∷ [];
   added = added;
   goes_on = λ rest unit more d.
       subst (λ (words : List Text). Declares old.unit old.prefix.items (outer_of old) (codes "$var" ∷ kind ∷ size ∷ code ∷ reference ∷ words) unit
-      (variable_with old.prefix.items reference width code ∷ more)) (sym (append_assoc range (end_word ∷ []) rest))
+      (declared_variable old.prefix.items reference width code ∷ more)) (sym (append_assoc range (end_word ∷ []) rest))
       (variable old.unit unit old.prefix.items (outer_of old) kind size code reference range rest width more number without
       (elsewhere new.unit old.unit unit new.prefix.items old.prefix.items (outer_of new) (outer_of old) rest more o p q d));
 }

@@ -9,7 +9,7 @@ use Rattle.basis.proofs.Bools.{and_left, and_right}
 use Rattle.basis.specs.declared.timescale.Span.{Span}
 use Rattle.vcd_read.specs.Words.{Text}
 use Rattle.vcd_read.specs.Timescale.{span_in}
-use Rattle.vcd_read.specs.Declarations.{Variable, Declares, done, note, scope, timescale, upscope, variable, is_declaring, is_note, is_telling, HaveNoEnd, end_word, variable_with}
+use Rattle.vcd_read.specs.Declarations.{Variable, Declares, done, note, scope, timescale, upscope, variable, is_declaring, is_note, is_telling, HaveNoEnd, end_word, declared_variable}
 use Rattle.vcd_read.proofs.OneTelling.{no_end}
 
 -- what comes next, with the unit so far and the prefixes of the open scope and of those round it: a declaration; words up to an end; the words
@@ -63,7 +63,7 @@ adds (passes unit prefix outer) word = []
 adds (variable_kind unit prefix outer) word = []
 adds (variable_size unit prefix outer) word = []
 adds (variable_code unit prefix outer width) word = []
-adds (variable_name unit prefix outer width code) word = variable_with prefix word width code ∷ []
+adds (variable_name unit prefix outer width code) word = declared_variable prefix word width code ∷ []
 adds (last unit) word = []
 
 abbrev is_last : State → Bool
@@ -168,7 +168,7 @@ read_is before prefix outer words unit variables after (timescale _ _ _ list res
 read_is before prefix outer words unit variables after (upscope _ _ round _ around rest more d) = read_is before round around rest unit more after d
 read_is before prefix outer words unit variables after (variable _ _ _ _ kind size code reference range rest width more number without d) =
     let next = note_passed before prefix outer range rest after without ∙ read_is before prefix outer rest unit more after d in
-    λ i. record { unit = (next i).unit; variables = variable_with prefix reference (number.value i) code ∷ (next i).variables; left = (next i).left }
+    λ i. record { unit = (next i).unit; variables = declared_variable prefix reference (number.value i) code ∷ (next i).variables; left = (next i).left }
 
 pub declare_one : (before : Option Span) (prefix : Text) (outer these those x y : List Text) (u v : Option Span) (a b : List Variable) →
     Declares before prefix outer these u a → Declares before prefix outer those v b → these ++ x ≡ those ++ y → (these ≡ those) × (u ≡ v) × (a ≡ b)

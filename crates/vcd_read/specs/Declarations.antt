@@ -53,8 +53,8 @@ abbrev pub name_of : Text → Text
 name_of reference = if get_or reference 0 0 == 92 then drop 1 reference else take (prefix_len is_no_bracket reference) reference
 
 -- what is declared by this reference, where names begin so
-abbrev pub variable_with : Text → Text → ℕ → Text → Variable
-variable_with prefix reference width code = record { name = prefix ++ name_of reference; width = width; code = code }
+abbrev pub declared_variable : Text → Text → ℕ → Text → Variable
+declared_variable prefix reference width code = record { name = prefix ++ name_of reference; width = width; code = code }
 
 -- The words declare this unit of times, if they declare one, and these variables, where the unit before was declared before them, and where
 -- the names of variables begin with the prefix, and outside of the open scope with the outer ones.
@@ -78,4 +78,4 @@ pub data Declares : Option Span → Text → List Text → List Text → Option 
   variable : (before unit : Option Span) (prefix : Text) (outer : List Text) (kind size code reference : Text) (range rest : List Text) (width : ℕ)
       (variables : List Variable) → IsDecimal size width → HaveNoEnd range → Declares before prefix outer rest unit variables →
       Declares before prefix outer (codes "$var" ∷ kind ∷ size ∷ code ∷ reference ∷ (range ++ end_word ∷ rest)) unit
-      (variable_with prefix reference width code ∷ variables)
+      (declared_variable prefix reference width code ∷ variables)

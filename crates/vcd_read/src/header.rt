@@ -5,7 +5,7 @@ ghost use Rattle.std.specs.List.{prefix_len};
 ghost use Rattle.vcd_read.specs.Words.{Text};
 ghost use Rattle.vcd_read.specs.Bytes.{left, IsReady, Come, Takes};
 ghost use Rattle.vcd_read.specs.Declaring.{Lead, all_seen, outer_of, view_of};
-ghost use Rattle.vcd_read.specs.Declarations.{Declares, variable_with, name_of as name_of_reference, is_declaring, is_no_bracket, is_note, is_telling, last_words};
+ghost use Rattle.vcd_read.specs.Declarations.{Declares, declared_variable, name_of as name_of_reference, is_declaring, is_no_bracket, is_note, is_telling, last_words};
 
 use crate::fault::{VcdFault, VcdFlaw};
 use crate::numbers::decimal_in;
@@ -90,7 +90,7 @@ fn variable_of(
     width: u64,
     code: Vec<u8>,
 ) -> Result<VcdVariable, NoMemory>
-    ensures { IfOk result (λ v. view_of v ≡ variable_with prefix.now.items reference.now width code.items) }
+    ensures { IfOk result (λ v. view_of v ≡ declared_variable prefix.now.items reference.now width code.items) }
 {
     let mut name = prefix.clone()?;
     name.extend_from_slice(name_of(reference))?;
@@ -177,7 +177,7 @@ impl Header {
         ensures outer { IfOk result (λ _. outer_of self.new ≡ outer_of self.old) }
         ensures unit { IfOk result (λ _. self.new.unit ≡ self.old.unit) }
         ensures variables { IfOk result (λ _. all_seen self.new.variables.items
-            ≡ all_seen self.old.variables.items ++ variable_with self.old.prefix.items reference.now width code.items ∷ []) }
+            ≡ all_seen self.old.variables.items ++ declared_variable self.old.prefix.items reference.now width code.items ∷ []) }
     {
         let variable = variable_of(&self.prefix, reference, width, code)?;
         self.variables.push(variable)?;

@@ -14,7 +14,7 @@ use Rattle.vgrammar.specs.declared.start.StatementStart.{StatementStart}
 use Rattle.vgrammar.specs.declared.start.StatementStart.TheVariants as start
 use Rattle.vgrammar.specs.Parts.{Both, both, map_tree, pair, word_as, maybe, roomy}
 use Rattle.vgrammar.specs.Starts.{start_of, begins_target, is_target, is_some_meaning, meant_if, sign_of}
-use Rattle.vgrammar.specs.Statements.{value, word_only, optional_delay, assignment_of, assignment_parts, assignment, target_lead, target, value_then, if_of, guarded_of, setting, for_of, delayed_of, event_body_of, block_of, has_default, branch_of, default_branch, branch, case_parts_of, case_parts, arguments, print_of, optional_print_of, idle_of, dump_file_of, dump_vars_of, dump_of, end_of, trigger_of, statement_by, lead_by, statement, ends_statement, block_name}
+use Rattle.vgrammar.specs.Statements.{value, word_only, optional_delay, assignment_of, assignment_parts, assignment, target_lead, target, guard_then, if_of, guarded_of, setting, for_of, delayed_of, event_body_of, block_of, has_default, branch_of, default_branch, branch, case_parts_of, case_parts, arguments, print_of, optional_print_of, idle_of, dump_file_of, dump_vars_of, dump_of, end_of, trigger_of, statement_by, lead_by, statement, ends_statement, block_name}
 use Rattle.vgrammar.proofs.PartPhrases.{arguments_inner_phrase, arguments_phrase}
 use Rattle.vgrammar.proofs.StatementPhrases.{signed_phrase, assignment_phrase}
 use Rattle.vgrammar.proofs.StatementLevels.{statement_phrase, statement_leads}
@@ -87,7 +87,7 @@ module _ (below : ℕ) (g : Growth (statement below) (statement (up below))) whe
   more = statement (up below)
 
   guarded_growth : {A : Type 0} → nat_le 1 below ≡ true → {r m : Reader A} → Growth r m →
-      Growth (value_then below r) (value_then (up below) m)
+      Growth (guard_then below r) (guard_then (up below) m)
   guarded_growth level h = past_growth (codes "(") (paired_growth (value_growth below level) (past_growth (codes ")") h))
 
   setting_growth : nat_le 1 below ≡ true → Growth (setting below) (setting (up below))

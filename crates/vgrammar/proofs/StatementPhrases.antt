@@ -15,7 +15,7 @@ use Rattle.vgrammar.specs.declared.start.Guard.{Guard}
 use Rattle.vgrammar.specs.declared.start.Guard.TheVariants as guard
 use Rattle.vgrammar.specs.Parts.{Both, both, map_tree, pair, word_as}
 use Rattle.vgrammar.specs.Starts.{sign_of, sign_word, guard_word}
-use Rattle.vgrammar.specs.Statements.{value, name_word, word_only, amount, optional_delay, Assignment, assignment_of, assignment_parts, value_then, if_of, branches_of_if, guarded_of, setting, For, for_of, for_parts, delayed_of, control, event_body_of, statements_in, block_of, block_parts, trigger_of, ends_statement, Block, block_name, ended_statements}
+use Rattle.vgrammar.specs.Statements.{value, name_word, word_only, amount, optional_delay, Assignment, assignment_of, assignment_parts, guard_then, if_of, branches_of_if, guarded_of, setting, For, for_of, for_parts, delayed_of, control, event_body_of, statements_in, block_of, block_parts, trigger_of, ends_statement, Block, block_name, ended_statements}
 use Rattle.vgrammar.proofs.Phrases.{Shape, Phrase, Example, Worded, Opens, Makes, AreLinked, always, phrase_within, past_shape, past_phrase, past_example, nothing_phrase, worded_shape, worded_phrase, linked_shape, linked_phrase, paired_shape, before_phrase, paired_example, free_phrase, next_phrase}
 use Rattle.vgrammar.proofs.PhraseChoices.{maybe_shape, maybe_phrase, Tested, many_shape, many_phrase, ends_maybe, allows_all}
 use Rattle.vgrammar.proofs.LevelFacts.{one_up, and_true}
@@ -35,7 +35,7 @@ guarded_shape below s = past_shape (codes "(") (paired_shape (value_shape below)
 
 pub guarded_phrase : {A : Type 0} (below : ℕ) → nat_le 1 below ≡ true → {read : Reader A} {ends : Ends} {s : Shape A} →
     Phrase read ends s →
-    Example s → Phrase (value_then below read) ends (guarded_shape below s)
+    Example s → Phrase (guard_then below read) ends (guarded_shape below s)
 unfolding binary_of
 guarded_phrase below level p e =
     past_phrase (codes "(") (before_phrase (codes ")") (value_phrase below) p e refl)
@@ -281,7 +281,7 @@ module _ (below : ℕ) (read : Reader StatementTree) (p : Phrase read ends_state
   if_branches_example level = record { tree = both empty None; valid = level }
 
   pub if_phrase : nat_le 1 below ≡ true →
-      Phrase (value_then below (branches_of_if read)) ends_statement (guarded_shape below if_shape)
+      Phrase (guard_then below (branches_of_if read)) ends_statement (guarded_shape below if_shape)
   if_phrase level = guarded_phrase below level (branches_phrase level) (if_branches_example level)
 
   pub if_example : nat_le 1 below ≡ true → Example (guarded_shape below if_shape)
@@ -320,7 +320,7 @@ module _ (below : ℕ) (read : Reader StatementTree) (p : Phrase read ends_state
 
   -- while, repeat, wait
 
-  pub loop_phrase : nat_le 1 below ≡ true → Phrase (value_then below read) ends_statement (guarded_shape below S)
+  pub loop_phrase : nat_le 1 below ≡ true → Phrase (guard_then below read) ends_statement (guarded_shape below S)
   loop_phrase level = guarded_phrase below level p (inner_example level)
 
   pub loop_example : nat_le 1 below ≡ true → Example (guarded_shape below S)

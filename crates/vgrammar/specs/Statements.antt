@@ -118,8 +118,8 @@ assignment below = map_tree assignment_of (assignment_parts below)
 -- Statements round others. Each stands behind its first word.
 
 -- ( value ) and what is read behind it
-abbrev pub value_then : {A : Type 0} → ℕ → Reader A → Reader (Both ExpressionTree A)
-value_then below read = past (codes "(") (pair (value below) (past (codes ")") read))
+abbrev pub guard_then : {A : Type 0} → ℕ → Reader A → Reader (Both ExpressionTree A)
+guard_then below read = past (codes "(") (pair (value below) (past (codes ")") read))
 
 abbrev pub if_of : Both ExpressionTree (Both StatementTree (Option StatementTree)) → StatementTree
 if_of (both condition (both body None)) = if_true condition body
@@ -256,7 +256,7 @@ branches below read =
     (λ one. many (λ next. not (is_front (codes "endcase") next)) (λ list. branch below read (one ∷ list)))
 
 abbrev pub case_parts : ℕ → Reader StatementTree → Reader Case
-case_parts below read = value_then below (pair (branches below read) (word_only (codes "endcase")))
+case_parts below read = guard_then below (pair (branches below read) (word_only (codes "endcase")))
 
 -- Tasks
 
@@ -347,9 +347,9 @@ abbrev pub statement_by : ℕ → Reader StatementTree → StatementStart → Le
 statement_by below read start.Empty = goes (got empty)
 statement_by below read start.Begin = goes (map_tree block_of (block_parts read))
 statement_by below read start.Trigger = room below 1 (goes (map_tree trigger_of (pair name_word (word_only (codes ";")))))
-statement_by below read start.If = room below 1 (goes (map_tree if_of (value_then below (branches_of_if read))))
+statement_by below read start.If = room below 1 (goes (map_tree if_of (guard_then below (branches_of_if read))))
 statement_by below read (start.Case kind) = room below 1 (goes (map_tree (case_parts_of kind) (case_parts below read)))
-statement_by below read (start.Guarded kind) = room below 1 (goes (map_tree (guarded_of kind) (value_then below read)))
+statement_by below read (start.Guarded kind) = room below 1 (goes (map_tree (guarded_of kind) (guard_then below read)))
 statement_by below read start.Forever = room below 1 (goes (map_tree forever read))
 statement_by below read start.For = room below 1 (goes (map_tree for_of (for_parts below read)))
 statement_by below read start.Delay = room below 1 (goes (map_tree delayed_of (pair (amount below) read)))

@@ -21,7 +21,7 @@ use Rattle.velab_expr.proofs.AnswerLemmas.{still_refused}
 use Rattle.velab_declaration.specs.Drives.{Place, start_of, with_start_values}
 use Rattle.velab_declaration.specs.DriveMarks.{starts_from}
 use Rattle.vhierarchy.proofs.StepLemmas.{barred, first_refused}
-use Rattle.vhierarchy.specs.Instances.{unless_word, value_unless_fault, Part, Context, nothing, top_context, elaborate_instance, elaborate_top, design_by, broken_design, Whole, check, whole_of, broken_ports, unless_fault, top_whole, elaborated_whole, as_design, elaborated, Elaborates}
+use Rattle.vhierarchy.specs.Instances.{unless_word, value_unless_fault, PartialDesign, Context, nothing, top_context, elaborate_instance, elaborate_top, design_by, broken_design, Whole, check, whole_of, broken_ports, unless_fault, top_whole, elaborated_whole, as_design, elaborated, Elaborates}
 use Rattle.vhierarchy.specs.Reasons.{IsDesignReason, IsOnlyDesign, HasNoDesign}
 use Rattle.vhierarchy.specs.Inner.{variable_names, scope_names, with_starts}
 
@@ -43,7 +43,7 @@ all_started driven n (v ∷ more) = ap (λ (l : List Variable). record v { start
 
 -- ---- the whole
 
-module _ (modules : SourceTree) (m : ModuleTree) (levels : ℕ) (part : Part) (context : Context) (deep : levels ≡ 16) (empty : part ≡ nothing) (is_top : context ≡ top_context m) where
+module _ (modules : SourceTree) (m : ModuleTree) (levels : ℕ) (part : PartialDesign) (context : Context) (deep : levels ≡ 16) (empty : part ≡ nothing) (is_top : context ≡ top_context m) where
   pub top_elaborated : elaborate_instance levels modules part context ≡ elaborate_top modules m
   unfolding elaborate_top
   top_elaborated = λ i. elaborate_instance (deep i) modules (empty i) (is_top i)
@@ -70,7 +70,7 @@ top_is m name names connections named none nothing_tied = λ i. record {
 }
 
 -- what is broken of it is told, and nothing where none is
-module _ (scale : Timescale) (m : ModuleTree) (part : Part) where
+module _ (scale : Timescale) (m : ModuleTree) (part : PartialDesign) where
   pub wrong : (e : OrMemory ElabFault) → Because (IsBroken (broken_design m.name part)) e → Refuses e (as_design scale (check m part))
   wrong (Fault fault) h = ap (λ (b : Option ElabFault). as_design scale (value_unless_fault b (record { unit = m; part = part }))) h
   wrong (Memory memory) h = tt
@@ -78,10 +78,10 @@ module _ (scale : Timescale) (m : ModuleTree) (part : Part) where
   -- of the top
   module _ (modules : SourceTree) where
     pub top_wrong : (e : OrMemory ElabFault) → Refuses e (elaborate_top modules m) → Refuses e (as_design scale (whole_of modules m))
-    top_wrong = still_refused (elaborate_top modules m) (as_design scale (whole_of modules m)) (λ fault is. ap (λ (r : Result Part ElabFault). as_design scale (r >>= λ p. check m p)) is)
+    top_wrong = still_refused (elaborate_top modules m) (as_design scale (whole_of modules m)) (λ fault is. ap (λ (r : Result PartialDesign ElabFault). as_design scale (r >>= λ p. check m p)) is)
 
     pub top_sound : elaborate_top modules m ≡ Ok part → as_design scale (whole_of modules m) ≡ as_design scale (check m part)
-    top_sound is = ap (λ (r : Result Part ElabFault). as_design scale (r >>= λ p. check m p)) is
+    top_sound is = ap (λ (r : Result PartialDesign ElabFault). as_design scale (r >>= λ p. check m p)) is
 
 -- ---- the text
 

@@ -8,7 +8,7 @@ use Rattle.velab_expr.specs.declared.fault.ElabFault.{ElabFault}
 use Rattle.velab_expr.specs.Answers.{◌>>=◌, Refuses}
 use Rattle.velab_expr.specs.Scopes.{Scope}
 use Rattle.velab_expr.proofs.ListLemmas.{drop_at}
-use Rattle.vhierarchy.specs.Instances.{Instantiation, Part, Context, lower_names, lower_instances, lower_own, child_context, each, elaborate_instance}
+use Rattle.vhierarchy.specs.Instances.{Instantiation, PartialDesign, Context, lower_names, lower_instances, lower_own, child_context, each, elaborate_instance}
 use Rattle.vhierarchy.specs.Inner.{instantiation_tree, instance_below, instances_below}
 use Rattle.vhierarchy.specs.declared.instantiation.Instantiation.{Instantiation as ProgramInstantiation}
 use Rattle.vhierarchy.specs.declared.context.Context.{Context as ProgramContext}
@@ -17,8 +17,8 @@ use Rattle.vhierarchy.proofs.StepLemmas.{first_refused, then_is, same_refused}
 -- ---- instances one after another
 
 module _ (units : Units) (levels : ℕ) (context : ProgramContext) (scope : Scope) (list : List ProgramInstantiation) (i : ℕ) (x : ProgramInstantiation) (within : i < length list) (is : x ≡ get_or list i x)
-    (part : Part) (all : Result Part ElabFault) (same : instances_below units levels context scope part (drop i list) ≡ all) where
-  abbrev step : Part → Instantiation → Result Part ElabFault
+    (part : PartialDesign) (all : Result PartialDesign ElabFault) (same : instances_below units levels context scope part (drop i list) ≡ all) where
+  abbrev step : PartialDesign → Instantiation → Result PartialDesign ElabFault
   step = instance_below units levels context scope
 
   abbrev rest : List ProgramInstantiation
@@ -27,7 +27,7 @@ module _ (units : Units) (levels : ℕ) (context : ProgramContext) (scope : Scop
   opens : all ≡ (step part (instantiation_tree units.words x) >>= λ next. instances_below units levels context scope next rest)
   opens = sym same ∙ ap (λ (l : List ProgramInstantiation). instances_below units levels context scope part l) (drop_at list i x within is)
 
-  pub one_put : (next : Part) → step part (instantiation_tree units.words x) ≡ Ok next → instances_below units levels context scope next rest ≡ all
+  pub one_put : (next : PartialDesign) → step part (instantiation_tree units.words x) ≡ Ok next → instances_below units levels context scope next rest ≡ all
   one_put next put = sym (opens ∙ then_is (step part (instantiation_tree units.words x)) (λ n. instances_below units levels context scope n rest) next put)
 
   pub one_refused : (e : OrMemory ElabFault) → Refuses e (step part (instantiation_tree units.words x)) → Refuses e all
@@ -36,17 +36,17 @@ module _ (units : Units) (levels : ℕ) (context : ProgramContext) (scope : Scop
 
 -- ---- an instance
 
-module _ (modules : SourceTree) (part : Part) (context : Context) (levels below : ℕ) (deep : levels ≡ suc below) where
-  abbrev after_own : Scope → List Instantiation → Part → Result Part ElabFault
+module _ (modules : SourceTree) (part : PartialDesign) (context : Context) (levels below : ℕ) (deep : levels ≡ suc below) where
+  abbrev after_own : Scope → List Instantiation → PartialDesign → Result PartialDesign ElabFault
   after_own scope children own = each (λ so_far child. elaborate_instance below modules so_far (child_context scope context child)) own children
 
-  abbrev after_children : Scope → List Instantiation → Result Part ElabFault
+  abbrev after_children : Scope → List Instantiation → Result PartialDesign ElabFault
   after_children scope children = lower_own context (ports_of context.unit) scope part >>= λ own. after_own scope children own
 
-  abbrev after_names : Scope → Result Part ElabFault
+  abbrev after_names : Scope → Result PartialDesign ElabFault
   after_names scope = lower_instances modules 0 scope.known context.unit.items >>= λ children. after_children scope children
 
-  abbrev all : Result Part ElabFault
+  abbrev all : Result PartialDesign ElabFault
   all = elaborate_instance levels modules part context
 
   opened : all ≡ (lower_names part context >>= λ scope. after_names scope)
@@ -72,5 +72,5 @@ module _ (modules : SourceTree) (part : Part) (context : Context) (levels below 
       pub own_refused : (e : OrMemory ElabFault) → Refuses e (lower_own context ports scope part) → Refuses e all
       own_refused e h = same_refused _ all (sym own_next) e (first_refused (lower_own context ports scope part) (λ own. after_own scope children own) e h)
 
-      pub instance_is : (own : Part) → lower_own context ports scope part ≡ Ok own → after_own scope children own ≡ all
+      pub instance_is : (own : PartialDesign) → lower_own context ports scope part ≡ Ok own → after_own scope children own ≡ all
       instance_is own put = sym (own_next ∙ then_is (lower_own context ports scope part) (λ o. after_own scope children o) own put)

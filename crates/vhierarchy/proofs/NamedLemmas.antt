@@ -37,7 +37,7 @@ use Rattle.velab_expr.specs.declared.fault.Rule.{Rule}
 use Rattle.velab_expr.specs.declared.fault.Rule.TheVariants.{Doubled, Ports, TooMany, Top}
 use Rattle.velab_expr.specs.Rules.{broken_if}
 use Rattle.velab_expr.proofs.FaultLemmas.{first_right}
-use Rattle.vhierarchy.specs.Instances.{unless_word, value_unless_fault, Instantiation, instantiation_by, lower_instance, lower_list, named_again, lower_instances_of, lower_instances_by, lower_instances, Part, Context, lower_names, lower_own_variables, lower_own_processes, with_own, few_enough, lower_own, child_context, each, elaborate_instance, nothing, top_context, elaborate_top, variable_paths, driven_in, design_by, broken_paths, broken_table, broken_design, Whole, check, whole_of, broken_ports, unless_fault, top_whole, elaborated_whole, as_design, Elaborates}
+use Rattle.vhierarchy.specs.Instances.{unless_word, value_unless_fault, Instantiation, instantiation_by, lower_instance, lower_list, named_again, lower_instances_of, lower_instances_by, lower_instances, PartialDesign, Context, lower_names, lower_own_variables, lower_own_processes, with_own, few_enough, lower_own, child_context, each, elaborate_instance, nothing, top_context, elaborate_top, variable_paths, driven_in, design_by, broken_paths, broken_table, broken_design, Whole, check, whole_of, broken_ports, unless_fault, top_whole, elaborated_whole, as_design, Elaborates}
 
 -- ---- letters and paths
 
@@ -473,15 +473,15 @@ own_items_named is_port (item ∷ more) all =
     (own_items_named is_port more (and_right (item_is_named item) (list_all item_is_named more) all))
 
 -- where there is a part, its variables have paths
-abbrev part_paths : Result Part ElabFault → Bool
+abbrev part_paths : Result PartialDesign ElabFault → Bool
 part_paths (Ok part) = all_paths part.variables
 part_paths (Err fault) = true
 
-then_paths : {A : Type 0} (a : Result A ElabFault) (rest : A → Result Part ElabFault) → ((x : A) → a ≡ Ok x → part_paths (rest x) ≡ true) → part_paths (a >>= rest) ≡ true
+then_paths : {A : Type 0} (a : Result A ElabFault) (rest : A → Result PartialDesign ElabFault) → ((x : A) → a ≡ Ok x → part_paths (rest x) ≡ true) → part_paths (a >>= rest) ≡ true
 then_paths (Ok x) rest h = h x refl
 then_paths (Err fault) rest h = refl
 
-few_paths : (name : Word) (part : Part) → all_paths part.variables ≡ true → part_paths (few_enough name part) ≡ true
+few_paths : (name : Word) (part : PartialDesign) → all_paths part.variables ≡ true → part_paths (few_enough name part) ≡ true
 few_paths name part all = by (nat_le (length part.begins) 256) (nat_le (length part.scopes) 1025)
   where
     by : (a b : Bool) → part_paths (answer_if a TooMany (Some name) (require b TooMany (Some name) part)) ≡ true
@@ -489,7 +489,7 @@ few_paths name part all = by (nat_le (length part.begins) 256) (nat_le (length p
     by true false = refl
     by false b = refl
 
-own_paths : (context : Context) (ports : List Port) (scope : Scope) (part : Part) → is_path context.path ≡ true →
+own_paths : (context : Context) (ports : List Port) (scope : Scope) (part : PartialDesign) → is_path context.path ≡ true →
     list_all are_printable (names (map port_declaration ports)) ≡ true → list_all item_is_named context.unit.items ≡ true →
     all_paths part.variables ≡ true → part_paths (lower_own context ports scope part) ≡ true
 own_paths context ports scope part e ports_named items_named before =
@@ -505,9 +505,9 @@ own_paths context ports scope part e ports_named items_named before =
     (list_all-append (λ (v : Variable). is_path v.name) part.variables variables
     ∙ and_both (all_paths part.variables) (all_paths variables) before (all_told (λ (v : Variable). is_path v.name) (lower_own_variables context ports scope) variables own is))))
 
-each_keeps : (step : Part → Instantiation → Result Part ElabFault) (good : Instantiation → Bool) →
-    ((part : Part) (one : Instantiation) → good one ≡ true → all_paths part.variables ≡ true → part_paths (step part one) ≡ true) →
-    (list : List Instantiation) (part : Part) → list_all good list ≡ true → all_paths part.variables ≡ true → part_paths (each step part list) ≡ true
+each_keeps : (step : PartialDesign → Instantiation → Result PartialDesign ElabFault) (good : Instantiation → Bool) →
+    ((part : PartialDesign) (one : Instantiation) → good one ≡ true → all_paths part.variables ≡ true → part_paths (step part one) ≡ true) →
+    (list : List Instantiation) (part : PartialDesign) → list_all good list ≡ true → all_paths part.variables ≡ true → part_paths (each step part list) ≡ true
 each_keeps step good keeps [] part all before = before
 each_keeps step good keeps (one ∷ more) part all before =
     then_paths (step part one) (λ next. each step next more)
@@ -515,7 +515,7 @@ each_keeps step good keeps (one ∷ more) part all before =
     (sym (ap part_paths is) ∙ keeps part one (and_left (good one) (list_all good more) all) before))
 
 module _ (modules : SourceTree) (named : list_all is_named modules ≡ true) where
-  grown_paths : (levels : ℕ) (part : Part) (context : Context) → is_path context.path ≡ true → is_named context.unit ≡ true →
+  grown_paths : (levels : ℕ) (part : PartialDesign) (context : Context) → is_path context.path ≡ true → is_named context.unit ≡ true →
       all_paths part.variables ≡ true → part_paths (elaborate_instance levels modules part context) ≡ true
   grown_paths zero part context e unit before = refl
   grown_paths (suc levels) part context e unit before =
@@ -578,7 +578,7 @@ started_paths : (driven : List Place) (n : ℕ) (vs : List Variable) → all_pat
 started_paths driven n [] = refl
 started_paths driven n (v ∷ more) = ap (λ b. is_path v.name && b) (started_paths driven (n + 1) more)
 
-design_named : (scale : Timescale) (m : ModuleTree) (part : Part) → is_named m ≡ true → all_paths part.variables ≡ true →
+design_named : (scale : Timescale) (m : ModuleTree) (part : PartialDesign) → is_named m ≡ true → all_paths part.variables ≡ true →
     has_double (variable_paths part) ≡ false → AreNamed (design_by scale m part)
 design_named scale m part e paths none = record {
   top = and_left (are_printable m.name.letters) (ports_are_named m && list_all item_is_named m.items) e;
@@ -592,7 +592,7 @@ none_doubled false top e = refl
 
 -- what is checked is named
 module _ (scale : Timescale) (m : ModuleTree) (unit : is_named m ≡ true) (whole : Whole) where
-  checked_named : (part : Part) → all_paths part.variables ≡ true → check m part ≡ Ok whole → AreNamed (design_by scale whole.unit whole.part)
+  checked_named : (part : PartialDesign) → all_paths part.variables ≡ true → check m part ≡ Ok whole → AreNamed (design_by scale whole.unit whole.part)
   checked_named part paths = by (broken_design m.name part) refl
     where
       by : (broken : Option ElabFault) → broken_design m.name part ≡ broken → value_unless_fault broken (record { unit = m; part = part }) ≡ Ok whole → AreNamed (design_by scale whole.unit whole.part)
@@ -602,7 +602,7 @@ module _ (scale : Timescale) (m : ModuleTree) (unit : is_named m ≡ true) (whol
           (design_named scale m part unit paths (none_doubled (has_double (variable_paths part)) _ (first_right _ _ (first_right (broken_paths m.name part) (broken_table m.name part) right))))
       by (Some fault) right is = absurd cc
 
-  whole_named : (part : Result Part ElabFault) → part_paths part ≡ true → (part >>= λ p. check m p) ≡ Ok whole → AreNamed (design_by scale whole.unit whole.part)
+  whole_named : (part : Result PartialDesign ElabFault) → part_paths part ≡ true → (part >>= λ p. check m p) ≡ Ok whole → AreNamed (design_by scale whole.unit whole.part)
   whole_named (Ok part) paths is = checked_named part paths is
   whole_named (Err fault) paths is = absurd cc
 

@@ -22,7 +22,7 @@ use Rattle.velab_process.specs.Processes.{Processes, with_begins_before}
 use Rattle.velab_declaration.specs.Parameters.{Overrides, lower_meaning, with_meaning, add_symbol, add_symbols}
 use Rattle.velab_declaration.specs.Variables.{port_scope, lower_ports, lower_variables}
 use Rattle.vmodules.specs.Ports.{own_items}
-use Rattle.vhierarchy.specs.Instances.{Part, Context, scope_of, few_enough, with_own}
+use Rattle.vhierarchy.specs.Instances.{PartialDesign, Context, scope_of, few_enough, with_own}
 use Rattle.vhierarchy.specs.Inner.{own_variables}
 use Rattle.vhierarchy.specs.declared.context.Context.{Context as ProgramContext}
 use Rattle.velab_declaration.proofs.VariableLemmas.{first_refused as front_refused}
@@ -85,8 +85,8 @@ module _ (words : List Text) (told : ProgramContext) (ports : List PortForm) (sc
 
 -- ---- the part with what is its own
 
-module _ (part : Part) (name : Word) (context : Context) (scope : Scope) (variables : Result (List Variable) ElabFault) where
-  pub variables_fault : (rest : List Variable → Result Part ElabFault) (fault : ElabFault) → behind part.variables variables ≡ Err fault → (variables >>= rest) ≡ Err fault
+module _ (part : PartialDesign) (name : Word) (context : Context) (scope : Scope) (variables : Result (List Variable) ElabFault) where
+  pub variables_fault : (rest : List Variable → Result PartialDesign ElabFault) (fault : ElabFault) → behind part.variables variables ≡ Err fault → (variables >>= rest) ≡ Err fault
   variables_fault rest fault = by variables
     where
       by : (a : Result (List Variable) ElabFault) → behind part.variables a ≡ Err fault → (a >>= rest) ≡ Err fault
@@ -94,7 +94,7 @@ module _ (part : Part) (name : Word) (context : Context) (scope : Scope) (variab
       by (Err other) is = let same : other ≡ fault = cc in ap Err same
 
   module _ (processes : Result Processes ElabFault) where
-    abbrev own : Result Part ElabFault
+    abbrev own : Result PartialDesign ElabFault
     own = variables >>= λ v. processes >>= λ p. few_enough name (with_own context scope part v p)
 
     pub processes_fault : (after : List Variable) (fault : ElabFault) → behind part.variables variables ≡ Ok after → with_begins_before part.begins processes ≡ Err fault → own ≡ Err fault
@@ -106,7 +106,7 @@ module _ (part : Part) (name : Word) (context : Context) (scope : Scope) (variab
         by (Ok v) (Err other) first then = let same : other ≡ fault = cc in ap Err same
         by (Err other) b first then = absurd cc
 
-    pub own_is : (after : Part) → behind part.variables variables ≡ Ok after.variables → with_begins_before part.begins processes ≡ Ok (record { table = after.table; begins = after.begins }) →
+    pub own_is : (after : PartialDesign) → behind part.variables variables ≡ Ok after.variables → with_begins_before part.begins processes ≡ Ok (record { table = after.table; begins = after.begins }) →
         after.scopes ≡ part.scopes ++ scope_of context scope.variables ∷ [] → after.events ≡ scope.events → after.size ≡ part.size + module_size (length context.path) context.unit → few_enough name after ≡ own
     own_is after = by variables processes
       where

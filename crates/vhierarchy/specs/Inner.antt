@@ -25,7 +25,7 @@ use Rattle.velab_declaration.specs.Variables.{port_names}
 use Rattle.velab_declaration.specs.Inner.{overrides_tree}
 use Rattle.velab_declaration.specs.Drives.{with_start_values}
 use Rattle.velab_declaration.specs.DriveMarks.{starts_from}
-use Rattle.vhierarchy.specs.Instances.{Instantiation, Part, Context, child_context, lower_instances, lower_list, lower_own_variables, lower_own_processes, lower_own, each, elaborate_instance, driven_in}
+use Rattle.vhierarchy.specs.Instances.{Instantiation, PartialDesign, Context, child_context, lower_instances, lower_list, lower_own_variables, lower_own_processes, lower_own, each, elaborate_instance, driven_in}
 use Rattle.vhierarchy.specs.declared.instantiation.Instantiation.{Instantiation as ProgramInstantiation}
 use Rattle.vhierarchy.specs.declared.instantiation.Open.{Open}
 use Rattle.vhierarchy.specs.declared.context.Context.{Context as ProgramContext}
@@ -90,17 +90,17 @@ abbrev pub own_processes : List Text → ProgramContext → List PortForm → Sc
 own_processes words context ports scope table = lower_own_processes (context_tree words context) (map (port_form words) ports) scope table
 
 -- this part, where it has so few processes and scopes
-abbrev pub few : Word → ℕ → ℕ → Part → Result Part ElabFault
+abbrev pub few : Word → ℕ → ℕ → PartialDesign → Result PartialDesign ElabFault
 few name processes scopes part = answer_if (nat_le processes 256) TooMany (Some name) (require (nat_le scopes 1025) TooMany (Some name) part)
 
-abbrev pub own_part : List Text → ProgramContext → List PortForm → Scope → Part → Result Part ElabFault
+abbrev pub own_part : List Text → ProgramContext → List PortForm → Scope → PartialDesign → Result PartialDesign ElabFault
 own_part words context ports scope part = lower_own (context_tree words context) (map (port_form words) ports) scope part
 
 -- an instance that is asked for and all below it, and those of a list, one after another
-abbrev pub instance_below : Units → ℕ → ProgramContext → Scope → Part → Instantiation → Result Part ElabFault
+abbrev pub instance_below : Units → ℕ → ProgramContext → Scope → PartialDesign → Instantiation → Result PartialDesign ElabFault
 instance_below units levels context scope part one = elaborate_instance levels (units_tree units) part (child_context scope (context_tree units.words context) one)
 
-abbrev pub instances_below : Units → ℕ → ProgramContext → Scope → Part → List ProgramInstantiation → Result Part ElabFault
+abbrev pub instances_below : Units → ℕ → ProgramContext → Scope → PartialDesign → List ProgramInstantiation → Result PartialDesign ElabFault
 instances_below units levels context scope part list = each (instance_below units levels context scope) part (instantiation_trees units.words list)
 
 -- the paths of variables
@@ -112,7 +112,7 @@ abbrev pub scope_names : List Room → List Text
 scope_names = map (λ s. s.path)
 
 -- what its variables are before anything is written
-abbrev pub starts_in : Part → List Vector
+abbrev pub starts_in : PartialDesign → List Vector
 starts_in part = starts_from (driven_in part) 0 part.variables
 
 -- variables with what each is before anything is written
@@ -122,7 +122,7 @@ with_starts (v ∷ more) [] = v ∷ more
 with_starts (v ∷ more) (start ∷ others) = record v { start = start } ∷ with_starts more others
 
 -- a part as a design, under a top's name
-abbrev pub named_design : Text → Timescale → Part → Design
+abbrev pub named_design : Text → Timescale → PartialDesign → Design
 named_design name scale part = record {
   top = name;
   scale = scale;

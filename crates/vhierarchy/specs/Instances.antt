@@ -114,7 +114,7 @@ lower_instances modules before known (item ∷ more) =
 
 -- a design so far: its variables, its scopes, its actions, where its processes begin, how many named events it has, and how large the modules
 -- of its instances are together
-pub record Part : Type 0 where
+pub record PartialDesign : Type 0 where
   pub variables : List design.Variable
   pub scopes : List design.Scope
   pub table : Table
@@ -133,14 +133,14 @@ pub record Context : Type 0 where
   pub overrides : Overrides
   pub connections : List NamedConnection
 
-abbrev pub base_of : Part → Context → Base
+abbrev pub base_of : PartialDesign → Context → Base
 base_of part context = record { top = context.top; first = length part.variables; events = part.events; overrides = context.overrides }
 
 abbrev pub scope_of : Context → ℕ → design.Scope
 scope_of context count = record { name = context.name.letters; path = context.path; depth = context.depth; variables = count }
 
 -- how many bytes the names of a design's variables and scopes have so far
-abbrev pub letters_held : Part → ℕ
+abbrev pub letters_held : PartialDesign → ℕ
 letters_held part = size_of (λ v. length v.name) part.variables + size_of (λ s. length s.path) part.scopes
 
 -- and those of an instance, whose variables have its path, a dot and then their own names
@@ -152,13 +152,13 @@ letters_added context = length context.path + size_of (dotted_size context.path)
 
 -- A design has at most 4,294,967,295 named events; its names have at most 1,048,576 bytes together, and the modules of its instances a size of
 -- at most 4,194,304.
-abbrev pub has_room : Part → Context → Bool
+abbrev pub has_room : PartialDesign → Context → Bool
 has_room part context =
     nat_le part.events 4294967295
     && (nat_le (letters_held part + letters_added context) 1048576 && nat_le (part.size + module_size (length context.path) context.unit) 4194304)
 
 -- its names, as they are known at its first item; a design has at most 1,024 variables
-abbrev pub lower_names : Part → Context → Result Scope ElabFault
+abbrev pub lower_names : PartialDesign → Context → Result Scope ElabFault
 lower_names part context =
     unless_doubled rule.Doubled (declared_names context.unit)
     (answer_if (nat_le (length part.variables + length (declared_names context.unit)) 1024) rule.TooMany (Some context.name)
@@ -171,7 +171,7 @@ lower_own_processes context ports scope table =
     lower_joins context.name context.overrides.scope scope context.connections table ports >>= λ joins.
     with_begins_before joins.begins (lower_items scope joins.table (placed_items context.path context.unit))
 
-abbrev pub with_own : Context → Scope → Part → List design.Variable → Processes → Part
+abbrev pub with_own : Context → Scope → PartialDesign → List design.Variable → Processes → PartialDesign
 with_own context scope part variables processes = record {
   variables = part.variables ++ variables;
   scopes = part.scopes ++ scope_of context scope.variables ∷ [];
@@ -182,7 +182,7 @@ with_own context scope part variables processes = record {
 }
 
 -- a design has at most 256 processes, and 1,024 instances below the top
-abbrev pub few_enough : Word → Part → Result Part ElabFault
+abbrev pub few_enough : Word → PartialDesign → Result PartialDesign ElabFault
 few_enough name part =
     answer_if (nat_le (length part.begins) 256) rule.TooMany (Some name)
     (require (nat_le (length part.scopes) 1025) rule.TooMany (Some name) part)
@@ -196,7 +196,7 @@ module _ (context : Context) (ports : List Port) (scope : Scope) where
       lower_variables context.path scope (own_items context.unit) >>= λ others. Ok (front ++ others)
 
   -- with its own variables, its scope and its own processes
-  abbrev pub lower_own : Part → Result Part ElabFault
+  abbrev pub lower_own : PartialDesign → Result PartialDesign ElabFault
   lower_own part =
       lower_own_variables >>= λ variables.
       lower_own_processes context ports scope part.table >>= λ processes.
@@ -217,13 +217,13 @@ child_context scope context instantiation = record {
 }
 
 -- one after another, each by what stands before
-abbrev pub each : (Part → Instantiation → Result Part ElabFault) → Part → List Instantiation → Result Part ElabFault
+abbrev pub each : (PartialDesign → Instantiation → Result PartialDesign ElabFault) → PartialDesign → List Instantiation → Result PartialDesign ElabFault
 each step part [] = Ok part
 each step part (one ∷ more) = step part one >>= λ next. each step next more
 
 -- An instance and all below it, so many levels deep: its own first, then the instances in it, in the order of the text. There are no more
 -- levels than these.
-abbrev pub elaborate_instance : ℕ → SourceTree → Part → Context → Result Part ElabFault
+abbrev pub elaborate_instance : ℕ → SourceTree → PartialDesign → Context → Result PartialDesign ElabFault
 elaborate_instance zero modules part context = refuse rule.Depth (Some context.name)
 elaborate_instance (suc levels) modules part context =
     lower_names part context >>= λ scope.
@@ -233,7 +233,7 @@ elaborate_instance (suc levels) modules part context =
 
 -- ---- the design (12.1)
 
-abbrev pub nothing : Part
+abbrev pub nothing : PartialDesign
 nothing = record { variables = []; scopes = []; table = record { actions = []; words = [] }; begins = []; events = 0; size = 0 }
 
 -- nothing is said of the top from outside, and there are no names
@@ -252,15 +252,15 @@ top_context m = record {
 }
 
 -- 16 levels, the top among them
-unfoldable pub elaborate_top : SourceTree → ModuleTree → Result Part ElabFault
+unfoldable pub elaborate_top : SourceTree → ModuleTree → Result PartialDesign ElabFault
 elaborate_top modules m = elaborate_instance 16 modules nothing (top_context m)
 
 -- the bits that its continuous assignments and its port connections drive
-abbrev pub driven_in : Part → List Place
+abbrev pub driven_in : PartialDesign → List Place
 driven_in part = driven_by_all (blank_environment part.variables) part.table.actions
 
 -- under the timescale of the text (19.8)
-abbrev pub design_by : Timescale → ModuleTree → Part → design.Design
+abbrev pub design_by : Timescale → ModuleTree → PartialDesign → design.Design
 design_by scale m part = record {
   top = m.name.letters;
   scale = scale;
@@ -271,10 +271,10 @@ design_by scale m part = record {
 }
 
 -- the paths of variables, and those of scopes
-abbrev pub variable_paths : Part → List Text
+abbrev pub variable_paths : PartialDesign → List Text
 variable_paths part = map (λ v. v.name) part.variables
 
-abbrev pub scope_paths : Part → List Text
+abbrev pub scope_paths : PartialDesign → List Text
 scope_paths part = map (λ s. s.path) part.scopes
 
 -- a path of a `$dumpvars` is a scope's, named from the top on (own: 18.1.2 has variables, too, and names that begin lower)
@@ -311,7 +311,7 @@ broken_selection scopes variables Stop = None
 
 -- no two variables have one path, nor have two scopes (where they had, two names would be alike, and that is told before); and each path that
 -- is dumped is there
-abbrev pub broken_paths : Word → Part → Option ElabFault
+abbrev pub broken_paths : Word → PartialDesign → Option ElabFault
 broken_paths top part =
     option_or (broken_if (has_double (variable_paths part)) rule.Doubled (Some top))
     (option_or (broken_if (has_double (scope_paths part)) rule.Doubled (Some top))
@@ -319,22 +319,22 @@ broken_paths top part =
 
 -- there are at most 256 processes, which is told before; what is written is a variable or a net as it is to be, no size is wrong, and no bit of a
 -- net has two drivers
-abbrev pub broken_table : Word → Part → Option ElabFault
+abbrev pub broken_table : Word → PartialDesign → Option ElabFault
 broken_table top part =
     option_or (unless (nat_le (length part.begins) 256) rule.TooMany (Some top))
     (option_or (table_fault (kind_rule part.variables) part.table.actions part.table.words)
     (option_or (table_fault (flaw_rule (blank_environment part.variables)) part.table.actions part.table.words)
     (drivers_fault (blank_environment part.variables) [] part.table.actions part.table.words)))
 
-abbrev pub broken_design : Word → Part → Option ElabFault
+abbrev pub broken_design : Word → PartialDesign → Option ElabFault
 broken_design top part = option_or (broken_paths top part) (broken_table top part)
 
 -- a text's top, and what it is elaborated to
 pub record Whole : Type 0 where
   pub unit : ModuleTree
-  pub part : Part
+  pub part : PartialDesign
 
-abbrev pub check : ModuleTree → Part → Result Whole ElabFault
+abbrev pub check : ModuleTree → PartialDesign → Result Whole ElabFault
 check m part = value_unless_fault (broken_design m.name part) (record { unit = m; part = part })
 
 abbrev pub whole_of : SourceTree → ModuleTree → Result Whole ElabFault

@@ -20,7 +20,7 @@ ghost use Rattle.vhierarchy.specs.Inner.{named_design, scope_names, starts_in, v
 use crate::context::Context;
 use crate::grow::put_unit;
 use crate::own::MOST_PROCESSES;
-use crate::part::Part;
+use crate::part::PartialDesign;
 use crate::select::check_selections;
 use basis::{NoMemory, OrMemory, Timescale};
 use std::alloc::Global;
@@ -56,7 +56,7 @@ fn whole_part<'t, 'u>(
     alloc: Global,
     modules: &Modules<'t, 'u>,
     unit: &'u ModuleTree,
-) -> Result<Part, OrMemory<ElabFault>>
+) -> Result<PartialDesign, OrMemory<ElabFault>>
     ensures { Gives result (elaborate_top (units_tree modules.now)
         (module_tree modules.now.words unit.now)) }
 {
@@ -84,7 +84,7 @@ fn whole_part<'t, 'u>(
         overrides: &overrides,
         connections: &connections,
     };
-    let mut part = Part::new(alloc);
+    let mut part = PartialDesign::new(alloc);
     put_unit(alloc, modules, most_levels(), &context, &mut part)?;
     Ok(part)
 }
@@ -128,7 +128,7 @@ fn scopes_of<'p>(
 }
 
 // What the paths of a part break. E302 where two are alike, E303 or E310 where what is dumped is no scope.
-fn check_paths(alloc: Global, part: &Part, top: Token) -> Result<(), OrMemory<ElabFault>>
+fn check_paths(alloc: Global, part: &PartialDesign, top: Token) -> Result<(), OrMemory<ElabFault>>
     ensures right { (words : List Text) →
         OnOk result (broken_paths (word_of words top) part.now ≡ None) }
     ensures err { (words : List Text) →
@@ -142,7 +142,11 @@ fn check_paths(alloc: Global, part: &Part, top: Token) -> Result<(), OrMemory<El
 
 // What each variable is before anything is written. E309 where the part has too many processes, E306 or E310 where an action is wrong,
 // E304 where two drive one bit.
-fn check_table(alloc: Global, part: &Part, top: Token) -> Result<Vec<Vec4>, OrMemory<ElabFault>>
+fn check_table(
+    alloc: Global,
+    part: &PartialDesign,
+    top: Token,
+) -> Result<Vec<Vec4>, OrMemory<ElabFault>>
     ensures starts { IfOk result (λ starts. starts.items ≡ starts_in part.now) }
     ensures right { (words : List Text) →
         OnOk result (broken_table (word_of words top) part.now ≡ None) }
@@ -182,14 +186,14 @@ fn design_by(
     alloc: Global,
     name: &[u8],
     scale: Timescale,
-    part: Part,
+    part: PartialDesign,
     starts: &[Vec4],
 ) -> Result<Design, NoMemory>
     requires few { length part.begins ≤ 256 }
     requires starts { starts.now ≡ starts_in part }
     ensures { IfOk result (λ design. design ≡ named_design name.now scale part) }
 {
-    let Part {
+    let PartialDesign {
         mut variables,
         scopes,
         table,
@@ -214,7 +218,7 @@ fn checked_design(
     tokens: &Tokens<'_>,
     unit: &ModuleTree,
     scale: Timescale,
-    part: Part,
+    part: PartialDesign,
 ) -> Result<Design, OrMemory<ElabFault>>
     ensures { Gives result
         (as_design scale (check (module_tree (words_of tokens.now) unit.now) part)) }

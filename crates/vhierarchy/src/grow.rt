@@ -9,7 +9,7 @@ ghost use Rattle.vhierarchy.specs.Inner.{context_tree, instance_below, instances
 use crate::context::Context;
 use crate::instantiation::{Instantiation, instantiations_in};
 use crate::own::{known_names, put_own};
-use crate::part::Part;
+use crate::part::PartialDesign;
 use basis::OrMemory;
 use std::alloc::Global;
 use velab_declaration::parameter::Overrides;
@@ -28,7 +28,7 @@ pub fn put_unit<'t, 'u>(
     modules: &Modules<'t, 'u>,
     levels: u32,
     context: &Context<'_, 't, 'u>,
-    part: &mut Part,
+    part: &mut PartialDesign,
 ) -> Result<(), OrMemory<ElabFault>>
     requires { context.now.depth + levels ≤ 16 }
     ensures { Makes result part.new (elaborate_instance levels (units_tree modules.now) part.old
@@ -63,7 +63,7 @@ fn put_each<'t, 'u>(
     context: &Context<'_, 't, 'u>,
     scope: &Scope<'_, 't>,
     list: &[Instantiation<'t, 'u>],
-    part: &mut Part,
+    part: &mut PartialDesign,
 ) -> Result<(), OrMemory<ElabFault>>
     requires { context.now.depth + levels < 16 }
     ensures { Makes result part.new
@@ -84,7 +84,7 @@ fn put_child<'t, 'u>(
     context: &Context<'_, 't, 'u>,
     scope: &Scope<'_, 't>,
     one: &Instantiation<'t, 'u>,
-    part: &mut Part,
+    part: &mut PartialDesign,
 ) -> Result<(), OrMemory<ElabFault>>
     requires { context.now.depth + levels < 16 }
     ensures { Makes result part.new (instance_below modules.now levels context.now scope.now part.old

@@ -18,7 +18,7 @@ ghost use Rattle.vhierarchy.specs.Instances.{lower_names};
 ghost use Rattle.vhierarchy.specs.Inner.{GivesAs, few, own_part, own_processes, own_variables, context_tree, scope_at_head};
 
 use crate::context::Context;
-use crate::part::Part;
+use crate::part::PartialDesign;
 use crate::room::room_for;
 use basis::{NoMemory, OrMemory};
 use std::alloc::Global;
@@ -58,7 +58,7 @@ pub struct Known<'t> {
 pub fn known_names<'t>(
     alloc: Global,
     tokens: &Tokens<'t>,
-    part: &Part,
+    part: &PartialDesign,
     context: &Context<'_, 't, '_>,
     ports: &[PortForm<'_>],
 ) -> Result<Known<'t>, OrMemory<ElabFault>>
@@ -226,7 +226,7 @@ fn put_scope(
 
 // E309, where there are too many processes or scopes.
 fn check_counts(begins: &[Places], scopes: &[Room], name: Token) -> Result<(), OrMemory<ElabFault>>
-    ensures { (words : List Text) (part : spec.Part) → Makes result part
+    ensures { (words : List Text) (part : spec.PartialDesign) → Makes result part
         (few (word_of words name) (length begins.now) (length scopes.now) part) }
 {
     if begins.len() > MOST_PROCESSES || scopes.len() > MOST_SCOPES {
@@ -243,7 +243,7 @@ pub fn put_own(
     ports: &[PortForm<'_>],
     scope: &Scope<'_, '_>,
     size: usize,
-    part: &mut Part,
+    part: &mut PartialDesign,
 ) -> Result<(), OrMemory<ElabFault>>
     requires small { scope.now.known
         + length (symbols_in (words_of tokens.now) context.now.unit.now.items.items) < 2 ^ 64 }

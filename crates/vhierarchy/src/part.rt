@@ -12,7 +12,7 @@ use velab_process::statement::Table;
 /// A design so far: its variables, its scopes, its actions, where its processes begin, how many named events it has, and how large the
 /// modules of its instances are together.
 #[derive(Drop)]
-pub struct Part {
+pub struct PartialDesign {
     pub variables: Vec<Variable>,
     pub scopes: Vec<Scope>,
     pub table: Table,
@@ -21,12 +21,12 @@ pub struct Part {
     pub size: usize,
 }
 
-impl Model for Part {
+impl Model for PartialDesign {
     ghost use Rattle.std.specs.Coded.{codes};
     ghost use Rattle.vdesign.specs.contracts.expression.Expression as expression;
     ghost use Rattle.vhierarchy.specs.Instances as spec;
 
-    ghost Value = { spec.Part };
+    ghost Value = { spec.PartialDesign };
 
     ghost coded = { Prim.hlevel (codes, expression.the_row.coded) };
 
@@ -40,12 +40,12 @@ impl Model for Part {
     } };
 }
 
-impl Part {
+impl PartialDesign {
     /// A design without anything.
-    pub fn new(alloc: Global) -> Part
+    pub fn new(alloc: Global) -> PartialDesign
         ensures { result ≡ spec.nothing }
     {
-        Part {
+        PartialDesign {
             variables: Vec::new(alloc),
             scopes: Vec::new(alloc),
             table: Table {

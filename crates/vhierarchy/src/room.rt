@@ -10,7 +10,7 @@ ghost use Rattle.vhierarchy.specs.Instances.{has_room, dotted_size, letters_held
 ghost use Rattle.vhierarchy.specs.Inner.{context_tree};
 
 use crate::context::Context;
-use crate::part::Part;
+use crate::part::PartialDesign;
 use module_size::modules::take_module;
 use vdesign::design::{Scope, Variable};
 use velab_declaration::parameter::MOST_EVENTS;
@@ -67,7 +67,7 @@ fn take_names(path: &[u8], names: &Names<'_>, mut left: usize) -> usize
 }
 
 // What is left behind the names of a design so far and those of an instance.
-fn names_left(part: &Part, path: &[u8], names: &Names<'_>) -> usize
+fn names_left(part: &PartialDesign, path: &[u8], names: &Names<'_>) -> usize
     ensures { result ≡ 1048577 -
         (letters_held part.now + (length path.now + size_of (dotted_size path.now) names.now)) }
 {
@@ -89,7 +89,7 @@ fn all_fit(events: usize, letters: usize, size: usize) -> bool
 /// How large the modules of a design are with that of an instance, where it has room for the instance.
 pub fn room_for(
     tokens: &Tokens<'_>,
-    part: &Part,
+    part: &PartialDesign,
     context: &Context<'_, '_, '_>,
     names: &Names<'_>,
 ) -> Option<usize>

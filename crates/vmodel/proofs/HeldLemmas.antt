@@ -17,7 +17,7 @@ use Rattle.vmodel.specs.State.{State}
 use Rattle.vmodel.specs.Waking.{wakes}
 use Rattle.vmodel.specs.Choices.{free_among, order_of}
 use Rattle.vmodel.specs.Holding.{count_before, with_one_held, with_held, before_choice, without_taken, held_with, release, held_after}
-use Rattle.vmodel.specs.Step.{environment_of, StepResult, execute_at, held_of, place_of, process_to_continue, without_active, with_next_step, reschedule, posts, with_strobe, with_moves_by, with_woken, with_moves, with_step, transition_with, action_transition, continuation_transition, continuation_of, without_update, with_update, transition_of}
+use Rattle.vmodel.specs.Step.{environment_of, StepResult, execute_at, held_of, place_of, process_to_continue, deactivate, with_next_step, reschedule, posts, with_strobe, with_moves_by, with_woken, with_moves, with_step, transition_with, action_transition, continuation_transition, continuation_of, without_update, with_update, transition_of}
 use Rattle.vmodel.specs.Kept.{RisesFrom, count_in, AreHeldBack, IsKept}
 use Rattle.vmodel.proofs.PlaceLemmas.{alike, count-other, count-self, count-cons, count-with, count-without, count-without_self, without_rises, with_rises}
 use Rattle.vmodel.proofs.ProcessLemmas.{without_other, without_same}
@@ -139,7 +139,7 @@ without-active p active held are r = elim (alike r p) [
 less-active : (q : Queue) (p : ℕ) (held : List ℕ) → AreActive q held → AreActive q (without_process p held)
 less-active q p held are r = omega (arith, are r, count-without p r held)
 
-leaves-active : (p : ℕ) (q : Queue) (held : List ℕ) → AreActive q held → AreActive (without_active p q) (without_process p held)
+leaves-active : (p : ℕ) (q : Queue) (held : List ℕ) → AreActive q held → AreActive (deactivate p q) (without_process p held)
 leaves-active p q held are = without-active p q.active held are
 
 goes_on-active : (p : ℕ) (goes : Option ℕ) (q : Queue) (held : List ℕ) → AreActive q held → AreActive (with_next_step p goes q) (without_process p held)
@@ -150,7 +150,7 @@ reschedule-active : (p : ℕ) (disposition : Disposition) (goes : Option ℕ) (q
     AreActive (reschedule p disposition goes q) (without_process p held)
 reschedule-active p Runnable goes q held are = goes_on-active p goes q held are
 reschedule-active p (Delayed d) goes q held are =
-    sleeps_by (λ (after : Queue). AreActive (without_active p after) (without_process p held)) d goes q (leaves-active p q held are)
+    sleeps_by (λ (after : Queue). AreActive (deactivate p after) (without_process p held)) d goes q (leaves-active p q held are)
     (λ r is. leaves-active p q held are) (leaves-active p q held are) (λ t lt within. leaves-active p q held are)
 reschedule-active p (Waiting place) goes q held are = leaves-active p q held are
 

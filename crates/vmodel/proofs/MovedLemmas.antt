@@ -10,7 +10,7 @@ use Rattle.vmodel.specs.declared.part.Part.{Part}
 use Rattle.vmodel.specs.declared.process.Frame.{Frame}
 use Rattle.vmodel.specs.State.{Process}
 use Rattle.vmodel.specs.Queue.{Later, Queue, with_process, slot_with_sleeper, slot_with_update, later_at, later}
-use Rattle.vmodel.specs.Step.{without_active, process_to_continue, with_next_step, with_delay, reschedule, posts_after, posts, activate_next_region, with_queue_moves, continuation_of, waits_by}
+use Rattle.vmodel.specs.Step.{deactivate, process_to_continue, with_next_step, with_delay, reschedule, posts_after, posts, activate_next_region, with_queue_moves, continuation_of, waits_by}
 use Rattle.vmodel.specs.Kept.{IsInOrder, count_in, places, most_places, HasRest, waits_of, IsInPlace}
 use Rattle.vmodel.specs.SlotEnds.{IsIdle}
 use Rattle.vmodel.proofs.PlaceLemmas.{alike, count-other, count-self, count-without_self, count-without, count-with, asleep-wake, asleep-update, without_rises, with_rises, wake_rises, update_rises}
@@ -69,7 +69,7 @@ settled_by P q stays wakes activates ends = at q.active q.activated q.inactive q
 
 -- ---- order
 
-order-leaves : (p : ℕ) (q : Queue) → IsInOrder q → IsInOrder (without_active p q)
+order-leaves : (p : ℕ) (q : Queue) → IsInOrder q → IsInOrder (deactivate p q)
 order-leaves p q h = record { active = without_rises p 0 q.active h.active; inactive = h.inactive; future = h.future }
 
 order-sleeps : (d : ℕ) (sleeper : Option ℕ) (q : Queue) → IsInOrder q → IsInOrder (with_delay d sleeper q)
@@ -107,7 +107,7 @@ order-process_with_move p disposition posted goes q h = order-reschedule p dispo
 -- ---- places
 
 -- what else stands somewhere stays where it is, or is gone
-places-leaves : (p r : ℕ) (q : Queue) → places r (without_active p q) ≤ places r q
+places-leaves : (p r : ℕ) (q : Queue) → places r (deactivate p q) ≤ places r q
 places-leaves p r q = omega (arith, count-without p r q.active)
 
 places-sleeps : (r d : ℕ) (sleeper : Option ℕ) (q : Queue) → places r (with_delay d sleeper q) ≤ places r q + count_in r (option_to_list sleeper)
@@ -144,7 +144,7 @@ places-others : (r p : ℕ) (disposition : Disposition) (posted : Option Post) (
 places-others r p disposition posted continuation q ne = omega (arith, places-reschedule r p disposition continuation (posts posted q) ne, places-posts r posted q)
 
 -- an active process that stands nowhere else stands nowhere once it has left
-left_all : (p : ℕ) (q : Queue) → places p q ≤ 1 → 1 ≤ count_in p q.active → places p (without_active p q) ≡ 0
+left_all : (p : ℕ) (q : Queue) → places p q ≤ 1 → 1 ≤ count_in p q.active → places p (deactivate p q) ≡ 0
 left_all p q once active = omega (arith, count-without_self p q.active)
 
 own-goes_on : (p : ℕ) (continuation : List Frame) (q : Queue) → places p q ≤ 1 → 1 ≤ count_in p q.active →
@@ -158,9 +158,9 @@ own-process_to_continue p (frame ∷ rest) = omega (arith, count-self p [])
 
 -- one that sleeps is where it sleeps, and active no more
 own-sleeps : (p d : ℕ) (sleeper : Option ℕ) (q : Queue) → places p q ≤ 1 → 1 ≤ count_in p q.active →
-    places p (without_active p (with_delay d sleeper q)) ≤ count_in p (option_to_list sleeper)
+    places p (deactivate p (with_delay d sleeper q)) ≤ count_in p (option_to_list sleeper)
 own-sleeps p d sleeper q once active =
-    sleeps_by (λ (after : Queue). places p (without_active p after) ≤ count_in p (option_to_list sleeper)) d sleeper q
+    sleeps_by (λ (after : Queue). places p (deactivate p after) ≤ count_in p (option_to_list sleeper)) d sleeper q
     (omega (arith, count-without_self p q.active))
     (λ s is. omega (arith, count-without_self p q.active, count-with s p q.inactive, ap (λ (o : Option ℕ). count_in p (option_to_list o)) is))
     (omega (arith, count-without_self p q.active))
@@ -188,13 +188,13 @@ pub nobody_last : (q : Queue) → q.last ≡ None → LastIsActive q
 nobody_last q none = λ p e. let no : None ≡ Some p = sym none ∙ e in cc
 
 last-goes_on : (p : ℕ) (continuation : List Frame) (q : Queue) → 1 ≤ count_in p q.active → LastIsActive (with_next_step p (process_to_continue p continuation) q)
-last-goes_on p [] q active = nobody_last (without_active p q) refl
+last-goes_on p [] q active = nobody_last (deactivate p q) refl
 last-goes_on p (frame ∷ rest) q active = λ r e. let same : p ≡ r = cc in subst (λ (n : ℕ). 1 ≤ count_in n q.active) same active
 
 last-reschedule : (p : ℕ) (disposition : Disposition) (continuation : List Frame) (q : Queue) → 1 ≤ count_in p q.active → LastIsActive (reschedule p disposition (process_to_continue p continuation) q)
 last-reschedule p Runnable continuation q active = last-goes_on p continuation q active
-last-reschedule p (Delayed d) continuation q active = nobody_last (without_active p (with_delay d (process_to_continue p continuation) q)) refl
-last-reschedule p (Waiting place) continuation q active = nobody_last (without_active p q) refl
+last-reschedule p (Delayed d) continuation q active = nobody_last (deactivate p (with_delay d (process_to_continue p continuation) q)) refl
+last-reschedule p (Waiting place) continuation q active = nobody_last (deactivate p q) refl
 
 last-process_with_move : (p : ℕ) (disposition : Disposition) (posted : Option Post) (continuation : List Frame) (q : Queue) → 1 ≤ count_in p q.active →
     LastIsActive (reschedule p disposition (process_to_continue p continuation) (posts posted q))

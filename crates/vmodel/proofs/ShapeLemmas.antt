@@ -33,7 +33,7 @@ use Rattle.vmodel.specs.Parts.{value_in, with_bits, with_parts}
 use Rattle.vmodel.specs.Queue.{Later, Queue, slot_with_sleeper, slot_with_update, empty_slot, later_at}
 use Rattle.vmodel.specs.State.{State}
 use Rattle.vmodel.specs.Choices.{choices}
-use Rattle.vmodel.specs.Step.{environment_of, StepResult, post_after, execute, execute_turn, resume, execute_at, place_of, process_to_continue, without_active, reschedule, posts, with_strobe, activate_next_region, with_moves_by, with_woken, with_moves, with_step, action_transition, continuation_transition, continuation_of, held_of, first_of, without_update, with_update, with_advance, transition_of, transition_by, next}
+use Rattle.vmodel.specs.Step.{environment_of, StepResult, post_after, execute, execute_turn, resume, execute_at, place_of, process_to_continue, deactivate, reschedule, posts, with_strobe, activate_next_region, with_moves_by, with_woken, with_moves, with_step, action_transition, continuation_transition, continuation_of, held_of, first_of, without_update, with_update, with_advance, transition_of, transition_by, next}
 use Rattle.vmodel.specs.Run.{Setting, opening_value, state_after}
 use Rattle.vmodel.specs.RunProgress.{opening_is, after_is}
 use Rattle.vmodel.specs.Kept.{HasShape, AreShaped}
@@ -240,7 +240,7 @@ reschedule-suit : (variables : List Variable) (p : ℕ) (disposition : Dispositi
 reschedule-suit variables p Runnable None q h = record { activated = h.activated; posted = h.posted; future = h.future }
 reschedule-suit variables p Runnable (Some same) q h = record { activated = h.activated; posted = h.posted; future = h.future }
 reschedule-suit variables p (Delayed d) goes q h =
-    sleeps_by (λ (r : Queue). QueueSuits variables (without_active p r)) d goes q
+    sleeps_by (λ (r : Queue). QueueSuits variables (deactivate p r)) d goes q
     (record { activated = h.activated; posted = h.posted; future = h.future })
     (λ r is. record { activated = h.activated; posted = h.posted; future = h.future })
     (record { activated = h.activated; posted = h.posted; future = h.future })

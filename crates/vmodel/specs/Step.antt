@@ -163,8 +163,8 @@ place_of (Writing place) = place
 -- ---- what becomes of the process in the queue
 
 -- it isn't active any more
-abbrev pub without_active : ℕ → Queue → Queue
-without_active p q = record q { last = None; active = without_process p q.active }
+abbrev pub deactivate : ℕ → Queue → Queue
+deactivate p q = record q { last = None; active = without_process p q.active }
 
 -- the process, where it has something left
 abbrev pub process_to_continue : ℕ → List Frame → Option ℕ
@@ -173,7 +173,7 @@ process_to_continue p (frame ∷ rest) = Some p
 
 -- it goes on as the process that made the last step, or has ended, where nothing is left
 abbrev pub with_next_step : ℕ → Option ℕ → Queue → Queue
-with_next_step p None q = without_active p q
+with_next_step p None q = deactivate p q
 with_next_step p (Some same) q = record q { last = Some same }
 
 abbrev pub becomes_inactive : Option ℕ → Queue → Queue
@@ -188,8 +188,8 @@ with_delay (suc d) sleeper q = later (suc d) (slot_with_sleeper sleeper) q
 
 abbrev pub reschedule : ℕ → Disposition → Option ℕ → Queue → Queue
 reschedule p Runnable goes q = with_next_step p goes q
-reschedule p (Delayed d) goes q = without_active p (with_delay d goes q)
-reschedule p (Waiting place) goes q = without_active p q
+reschedule p (Delayed d) goes q = deactivate p (with_delay d goes q)
+reschedule p (Waiting place) goes q = deactivate p q
 
 -- 11.4: an update stands after those posted before for its time, which is the current time, or later after a delay
 abbrev pub posts_after : ℕ → List Part → Queue → Queue

@@ -4,7 +4,7 @@ ghost use Rattle.std.specs.Prelude.{◌≡◌, ◌<◌, ◌==◌, ◌&&◌, OnOk
 ghost use Rattle.std.specs.Option.{ForSome};
 ghost use Rattle.vmodel.specs.Queue.{slot_with_sleeper, slot_with_update, later};
 ghost use Rattle.vmodel.specs.Inner.{time_after as time_after_of, without_last_strobe};
-ghost use Rattle.vmodel.specs.Step.{without_active, with_next_step, with_delay, reschedule, posts as posts_update, with_strobe, with_queue_moves, monitors_in, without_update, with_advance};
+ghost use Rattle.vmodel.specs.Step.{deactivate, with_next_step, with_delay, reschedule, posts as posts_update, with_strobe, with_queue_moves, monitors_in, without_update, with_advance};
 
 use crate::effect::{Disposition, Effect, Post};
 use crate::future::{copy_future, post_at, wake_at};
@@ -52,7 +52,7 @@ impl Queue {
 
     /// The process isn't active any more.
     fn leave(&mut self, process: u32)
-        ensures { self.new ≡ without_active process self.old }
+        ensures { self.new ≡ deactivate process self.old }
     {
         self.last = None;
         self.active.remove(process);

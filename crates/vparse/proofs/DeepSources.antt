@@ -11,7 +11,7 @@ use Rattle.vgrammar.specs.declared.start.StatementStart.{StatementStart}
 use Rattle.vgrammar.specs.declared.start.StatementStart.TheVariants as start
 use Rattle.vgrammar.specs.Parts.{map_tree, pair, maybe, roomy}
 use Rattle.vgrammar.specs.Starts.{start_of, start_word, statement_starts, begins_target, is_target, is_some_meaning, is_meant, meant_if, is_word, sign_of, edge_of, comma_of}
-use Rattle.vgrammar.specs.Statements.{value, name_word, number_word, word_only, comma_list, select, target_of, named_target, joined_of, joined_targets, target, delay_of, amount, assignment_of, assignment, value_then, if_of, guarded_of, setting, for_of, delayed_of, term_of, term, further_of, event_of, control, event_body_of, block_of, has_default, branch_of, default_branch, branch, case_parts_of, case_parts, begins_argument, argument_of, arguments, print_of, optional_print_of, idle_of, dump_file_of, path_of, selection_of, selection, dump_vars_of, end_of, dump_of, trigger_of, statement_by, lead_by, begins_statement, statement}
+use Rattle.vgrammar.specs.Statements.{value, name_word, number_word, word_only, comma_list, select, target_of, named_target, joined_of, joined_targets, target, delay_of, amount, assignment_of, assignment, guard_then, if_of, guarded_of, setting, for_of, delayed_of, term_of, term, further_of, event_of, control, event_body_of, block_of, has_default, branch_of, default_branch, branch, case_parts_of, case_parts, begins_argument, argument_of, arguments, print_of, optional_print_of, idle_of, dump_file_of, path_of, selection_of, selection, dump_vars_of, end_of, dump_of, trigger_of, statement_by, lead_by, begins_statement, statement}
 use Rattle.vgrammar.specs.Modules.{range_of, type_of, integer_of, parameter_type_of, setting_of, declared_of, connection_of, connections_of, instance_of, list_and_semicolon, net_of, local_of, item_of, first_parameter_of, head_parameter_of, direction_of, is_direction, port_of, named_port_of, ports_behind, ports_of, head_list_of, module_of, is_some_word, net_assignment_of}
 use Rattle.vgrammar.specs.Modules as with_levels
 use Rattle.vparse.specs.TextReaders.{free_value, range, type, parameter_type, setting as module_setting, declarator, connection, connections, item, head_parameters, direction, ports, module_tree, source, net_assignment}
@@ -116,7 +116,7 @@ module _ (below : ℕ) (s : Safe (statement below)) where
   abbrev body : Reader StatementTree
   body = statement below
 
-  guarded_safe : {A : Type 0} {read : Reader A} → Safe read → Safe (value_then below read)
+  guarded_safe : {A : Type 0} {read : Reader A} → Safe read → Safe (guard_then below read)
   guarded_safe r = past_safe (codes "(") (paired_safe (value_safe below) (past_safe (codes ")") r))
 
   set_safe : Safe (setting below)

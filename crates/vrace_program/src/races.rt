@@ -11,8 +11,8 @@ use command_line::{Allowance, RaceWords, Request, Search, VERSION};
 use race_groups::{Group, Races, Scope};
 use race_page::Page;
 use race_text::{
-    Findings, Format, NAMED, Sources, Told, Tops, Waived, Waiver, WaiverFault, WaiverLines,
-    WaiverScope, read_waivers,
+    Findings, Format, NAMED, SearchSummary, Sources, Tops, Waived, Waiver, WaiverFault,
+    WaiverLines, WaiverScope, read_waivers,
 };
 use run_pair::write_pair;
 use std::alloc::Global;
@@ -91,14 +91,14 @@ impl Verdict {
 }
 
 // What is told beside the races.
-fn told_of<R: Clock + Eprint>(
+fn summary_of<R: Clock + Eprint>(
     options: &Options<'_>,
     scope: &Scope,
     all: bool,
     is_top_named: bool,
     meter: &Meter<'_, R>,
-) -> Told {
-    Told {
+) -> SearchSummary {
+    SearchSummary {
         departures: options.limits.depart,
         steps: options.limits.steps,
         is_top_named,
@@ -305,12 +305,12 @@ fn tell_top<R: Clock + Eprint>(
         origins: &found.origins,
     };
     let waived = waived_of(alloc, &found, &sources, asked.waivers)?;
-    let told = told_of(&options, &scope, words.all, top.is_some(), meter);
+    let summary = summary_of(&options, &scope, words.all, top.is_some(), meter);
     let findings = Findings {
         machine: &found.machine,
         sources: &sources,
         races: &found.races,
-        told: &told,
+        summary: &summary,
         waivers: asked.waivers,
         waived: &waived,
     };

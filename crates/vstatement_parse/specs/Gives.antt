@@ -23,7 +23,7 @@ use Rattle.vgrammar.specs.Starts.{is_meant, is_word, meant_if, edge_of, comma_of
 use Rattle.vast.specs.declared.statement.Edge.{Edge}
 use Rattle.vast.specs.declared.statement.Path.{Path}
 use Rattle.vast.specs.declared.statement.FurtherTerm.{FurtherTerm as FurtherWords}
-use Rattle.vgrammar.specs.Statements.{select, target_of, target, targets_in, target_lead, name_word, word_only, trigger_of, number_word, end_of, end_parts, dump_file_of, dump_file_parts, statement, guarded_of, value_then, delayed_of, amount, term, further_term, event_of, enclosed_event, event_body_of, control, block_of, block_parts, path, selection, dump_vars_of, value, argument_of, argument}
+use Rattle.vgrammar.specs.Statements.{select, target_of, target, targets_in, target_lead, name_word, word_only, trigger_of, number_word, end_of, end_parts, dump_file_of, dump_file_parts, statement, guarded_of, guard_then, delayed_of, amount, term, further_term, event_of, enclosed_event, event_body_of, control, block_of, block_parts, path, selection, dump_vars_of, value, argument_of, argument}
 use Rattle.vgrammar.specs.declared.start.Guard.{Guard}
 use Rattle.vast.specs.declared.token.Token.{Token}
 use Rattle.vast.specs.TokenTexts.{token_text}
@@ -146,7 +146,7 @@ optional_edge = maybe (is_meant edge_of) (word_as edge_of)
 
 -- what stands behind while, and the like
 abbrev pub guarded_at : ℕ → Guard → Reader StatementTree
-guarded_at below kind = map_tree (guarded_of kind) (value_then below (statement below))
+guarded_at below kind = map_tree (guarded_of kind) (guard_then below (statement below))
 
 -- behind forever
 abbrev pub forever_at : ℕ → Reader StatementTree

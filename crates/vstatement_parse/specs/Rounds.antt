@@ -9,7 +9,7 @@ use Rattle.vast.specs.Statements.{TargetTree, StatementTree}
 use Rattle.vast.specs.StatementTrees.{statement_tree}
 use Rattle.vexpr_parse.specs.Readers.{Reader, past, is_front}
 use Rattle.vgrammar.specs.Parts.{Both, both, map_tree, maybe, pair}
-use Rattle.vgrammar.specs.Statements.{statement, value_then, if_of, branches_of_if, setting, value, for_of, for_parts}
+use Rattle.vgrammar.specs.Statements.{statement, guard_then, if_of, branches_of_if, setting, value, for_of, for_parts}
 use Rattle.vast.specs.declared.statement.Statement.{Statement}
 use Rattle.vstatement_parse.specs.declared.conditions.Choice.{Choice}
 use Rattle.vstatement_parse.specs.declared.loops.Step.{Step}
@@ -32,7 +32,7 @@ choice_tree words choice = both (body_tree words choice.body) (optional_tree wor
 
 -- behind if
 abbrev pub if_at : ℕ → Reader StatementTree
-if_at below = map_tree if_of (value_then below (branches_of_if (statement below)))
+if_at below = map_tree if_of (guard_then below (branches_of_if (statement below)))
 
 -- what a for does behind each turn, and its statement
 abbrev pub step_at : ℕ → Reader (Both (Both TargetTree ExpressionTree) StatementTree)

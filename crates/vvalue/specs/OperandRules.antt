@@ -12,7 +12,7 @@ use Rattle.vvalue.specs.declared.operand_rule.OperandRule.{OperandRule}
 use Rattle.vvalue.specs.declared.operand_rule.OperandRule.TheVariants.{ContextDetermined, MaxSized, SelfDetermined, LeftContextDetermined}
 use Rattle.vvalue.specs.declared.operand_rule.Sign.TheVariants as signs
 use Rattle.vvalue.specs.declared.operand_rule.UnaryOperandRule.{UnaryOperandRule}
-use Rattle.vvalue.specs.declared.operand_rule.UnaryOperandRule.TheVariants.{SameContext, SelfReduced, SelfNegated}
+use Rattle.vvalue.specs.declared.operand_rule.UnaryOperandRule.TheVariants.{InContext, Reduced, LogicallyNegated}
 
 abbrev pub operand_rule : BinaryOperator → OperandRule
 operand_rule binary.Times = ContextDetermined shared.Times
@@ -41,14 +41,14 @@ operand_rule binary.LogicalAnd = SelfDetermined logical.And
 operand_rule binary.LogicalOr = SelfDetermined logical.Or
 
 abbrev pub unary_operand_rule : UnaryOperator → UnaryOperandRule
-unary_operand_rule unary.Plus = SameContext signs.Plus
-unary_operand_rule unary.Minus = SameContext signs.Minus
-unary_operand_rule unary.Not = SelfNegated
-unary_operand_rule unary.Invert = SameContext signs.Invert
-unary_operand_rule unary.And = SelfReduced reduction.And
-unary_operand_rule unary.Nand = SelfReduced reduction.Nand
-unary_operand_rule unary.Or = SelfReduced reduction.Or
-unary_operand_rule unary.Nor = SelfReduced reduction.Nor
-unary_operand_rule unary.Xor = SelfReduced reduction.Xor
-unary_operand_rule unary.Xnor = SelfReduced reduction.Xnor
-unary_operand_rule unary.XorNot = SelfReduced reduction.Xnor
+unary_operand_rule unary.Plus = InContext signs.Plus
+unary_operand_rule unary.Minus = InContext signs.Minus
+unary_operand_rule unary.Not = LogicallyNegated
+unary_operand_rule unary.Invert = InContext signs.Invert
+unary_operand_rule unary.And = Reduced reduction.And
+unary_operand_rule unary.Nand = Reduced reduction.Nand
+unary_operand_rule unary.Or = Reduced reduction.Or
+unary_operand_rule unary.Nor = Reduced reduction.Nor
+unary_operand_rule unary.Xor = Reduced reduction.Xor
+unary_operand_rule unary.Xnor = Reduced reduction.Xnor
+unary_operand_rule unary.XorNot = Reduced reduction.Xnor

@@ -21,7 +21,7 @@ use Rattle.vvalue.specs.declared.size_and_sign.SizeAndSign.{SizeAndSign}
 use Rattle.vvalue.specs.declared.operand_rule.Sign.{Sign}
 use Rattle.vvalue.specs.declared.operand_rule.Sign.TheVariants as signs
 use Rattle.vvalue.specs.declared.operand_rule.UnaryOperandRule.{UnaryOperandRule}
-use Rattle.vvalue.specs.declared.operand_rule.UnaryOperandRule.TheVariants.{SameContext, SelfReduced, SelfNegated}
+use Rattle.vvalue.specs.declared.operand_rule.UnaryOperandRule.TheVariants.{InContext, Reduced, LogicallyNegated}
 use Rattle.vvalue.specs.OperandRules.{operand_rule, unary_operand_rule}
 use Rattle.vdesign.specs.Design.{Variable}
 use Rattle.vdesign.specs.declared.expression.Bounds.{Bounds}
@@ -53,9 +53,9 @@ size_by (SelfDetermined operator) left right = 1
 size_by (LeftContextDetermined operator) left right = left
 
 abbrev pub unary_size : UnaryOperandRule → ℕ → ℕ
-unary_size (SameContext operator) size = size
-unary_size (SelfReduced operator) size = 1
-unary_size SelfNegated size = 1
+unary_size (InContext operator) size = size
+unary_size (Reduced operator) size = 1
+unary_size LogicallyNegated size = 1
 
 -- 5.2.1: how many bits a part has. More than 64 are no design's (E306): where they stand all the same, only 64 are looked at
 abbrev pub part_size : Bounds → ℕ
@@ -84,9 +84,9 @@ sign_by (SelfDetermined operator) left right = false
 sign_by (LeftContextDetermined operator) left right = left
 
 abbrev pub unary_sign : UnaryOperandRule → Bool → Bool
-unary_sign (SameContext operator) sign = sign
-unary_sign (SelfReduced operator) sign = false
-unary_sign SelfNegated sign = false
+unary_sign (InContext operator) sign = sign
+unary_sign (Reduced operator) sign = false
+unary_sign LogicallyNegated sign = false
 
 -- 5.5.1: whether an expression by itself is signed
 abbrev pub is_signed : Environment → ExpressionTree → Bool
@@ -257,14 +257,14 @@ right_size_and_sign (LeftContextDetermined operator) left right here = right
 
 -- the only one
 abbrev pub unary_size_and_sign : UnaryOperandRule → SizeAndSign → SizeAndSign → SizeAndSign
-unary_size_and_sign (SameContext operator) operand here = here
-unary_size_and_sign (SelfReduced operator) operand here = operand
-unary_size_and_sign SelfNegated operand here = operand
+unary_size_and_sign (InContext operator) operand here = here
+unary_size_and_sign (Reduced operator) operand here = operand
+unary_size_and_sign LogicallyNegated operand here = operand
 
 abbrev pub unary_value : UnaryOperandRule → Vector → Vector
-unary_value (SameContext operator) v = kept_value operator v
-unary_value (SelfReduced operator) v = vectors.reduce v operator
-unary_value SelfNegated v = single (not_letter (truth v))
+unary_value (InContext operator) v = kept_value operator v
+unary_value (Reduced operator) v = vectors.reduce v operator
+unary_value LogicallyNegated v = single (not_letter (truth v))
 
 abbrev pub binary_value : OperandRule → Vector → Vector → Vector
 binary_value (ContextDetermined operator) v w = shared_value operator v w

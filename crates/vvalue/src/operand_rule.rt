@@ -105,11 +105,11 @@ pub enum Sign {
 #[derive(Clone, Copy)]
 pub enum UnaryOperandRule {
     /// It has the size and the sign of the result.
-    SameContext(Sign),
+    InContext(Sign),
     /// It is by itself, and its bits are folded to one.
-    SelfReduced(Reduction),
+    Reduced(Reduction),
     /// It is by itself, and the result is the opposite of its truth.
-    SelfNegated,
+    LogicallyNegated,
 }
 
 /// What becomes of the operand of this operator.
@@ -117,16 +117,16 @@ pub fn unary_operand_rule_of(operator: UnaryOperator) -> UnaryOperandRule
     ensures { result ≡ spec.unary_operand_rule operator }
 {
     match operator {
-        UnaryOperator::Plus => UnaryOperandRule::SameContext(Sign::Plus),
-        UnaryOperator::Minus => UnaryOperandRule::SameContext(Sign::Minus),
-        UnaryOperator::Not => UnaryOperandRule::SelfNegated,
-        UnaryOperator::Invert => UnaryOperandRule::SameContext(Sign::Invert),
-        UnaryOperator::And => UnaryOperandRule::SelfReduced(Reduction::And),
-        UnaryOperator::Nand => UnaryOperandRule::SelfReduced(Reduction::Nand),
-        UnaryOperator::Or => UnaryOperandRule::SelfReduced(Reduction::Or),
-        UnaryOperator::Nor => UnaryOperandRule::SelfReduced(Reduction::Nor),
-        UnaryOperator::Xor => UnaryOperandRule::SelfReduced(Reduction::Xor),
-        UnaryOperator::Xnor => UnaryOperandRule::SelfReduced(Reduction::Xnor),
-        UnaryOperator::XorNot => UnaryOperandRule::SelfReduced(Reduction::Xnor),
+        UnaryOperator::Plus => UnaryOperandRule::InContext(Sign::Plus),
+        UnaryOperator::Minus => UnaryOperandRule::InContext(Sign::Minus),
+        UnaryOperator::Not => UnaryOperandRule::LogicallyNegated,
+        UnaryOperator::Invert => UnaryOperandRule::InContext(Sign::Invert),
+        UnaryOperator::And => UnaryOperandRule::Reduced(Reduction::And),
+        UnaryOperator::Nand => UnaryOperandRule::Reduced(Reduction::Nand),
+        UnaryOperator::Or => UnaryOperandRule::Reduced(Reduction::Or),
+        UnaryOperator::Nor => UnaryOperandRule::Reduced(Reduction::Nor),
+        UnaryOperator::Xor => UnaryOperandRule::Reduced(Reduction::Xor),
+        UnaryOperator::Xnor => UnaryOperandRule::Reduced(Reduction::Xnor),
+        UnaryOperator::XorNot => UnaryOperandRule::Reduced(Reduction::Xnor),
     }
 }

@@ -156,9 +156,9 @@ pub fn unary_value(operand_rule: UnaryOperandRule, value: Vec4) -> Vec4
     ensures { result ≡ spec.unary_value operand_rule value }
 {
     match operand_rule {
-        UnaryOperandRule::SameContext(operator) => kept_value(operator, value),
-        UnaryOperandRule::SelfReduced(operator) => value.reduce(operator),
-        UnaryOperandRule::SelfNegated => Vec4::of_bit(value.truth().not()),
+        UnaryOperandRule::InContext(operator) => kept_value(operator, value),
+        UnaryOperandRule::Reduced(operator) => value.reduce(operator),
+        UnaryOperandRule::LogicallyNegated => Vec4::of_bit(value.truth().not()),
     }
 }
 

@@ -26,7 +26,7 @@ const TIME: SizeAndSign = SizeAndSign {
 };
 
 // Of a value that is taken as it is.
-fn own_value(value: Vec4) -> SizeAndSign
+fn size_and_sign_of_value(value: Vec4) -> SizeAndSign
     ensures exact { result ≡ spec.size_and_sign (length value.letters) value.signed }
     ensures within { IsWithin result }
 {
@@ -44,9 +44,9 @@ fn own_unary(operand_rule: UnaryOperandRule, operand: SizeAndSign) -> SizeAndSig
     ensures within { IsWithin result }
 {
     match operand_rule {
-        UnaryOperandRule::SameContext(_) => operand,
-        UnaryOperandRule::SelfReduced(_) => ONE_BIT,
-        UnaryOperandRule::SelfNegated => ONE_BIT,
+        UnaryOperandRule::InContext(_) => operand,
+        UnaryOperandRule::Reduced(_) => ONE_BIT,
+        UnaryOperandRule::LogicallyNegated => ONE_BIT,
     }
 }
 
@@ -117,8 +117,11 @@ pub fn self_determined<'n>(
         return (ONE_BIT, nodes);
     };
     match node {
-        Node::Constant(constant) => (own_value(constant.value), behind),
-        Node::Variable(number) => (own_value(value_at(environment, *number)), behind),
+        Node::Constant(constant) => (size_and_sign_of_value(constant.value), behind),
+        Node::Variable(number) => (
+            size_and_sign_of_value(value_at(environment, *number)),
+            behind,
+        ),
         Node::Bit(_) => {
             let (_, behind) = self_determined(behind, environment);
             (ONE_BIT, behind)

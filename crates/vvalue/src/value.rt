@@ -39,9 +39,9 @@ fn side(
     ensures within { IsWithin result }
 {
     match operand_rule {
-        UnaryOperandRule::SameContext(_) => here,
-        UnaryOperandRule::SelfReduced(_) => self_determined(nodes, environment).0,
-        UnaryOperandRule::SelfNegated => self_determined(nodes, environment).0,
+        UnaryOperandRule::InContext(_) => here,
+        UnaryOperandRule::Reduced(_) => self_determined(nodes, environment).0,
+        UnaryOperandRule::LogicallyNegated => self_determined(nodes, environment).0,
     }
 }
 

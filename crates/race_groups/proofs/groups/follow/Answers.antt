@@ -1,6 +1,6 @@
 use Rattle.std.proofs.Common.{ap, length, refl, ◌∙◌}
 use Rattle.std.proofs.lemmas.Option.{slice_get_read}
-use Rattle.race_groups.specs.Inner.{told_of}
+use Rattle.race_groups.specs.Inner.{group_head}
 use Rattle.race_groups.proofs.AddsLemmas.{told_alike}
 use Rattle.race_groups.proofs.CountLemmas.{follow_counts, follow_still, followed_told}
 use Rattle.race_groups.proofs.groups.follow.Goals as goal
@@ -10,7 +10,7 @@ returns-clause-told c =
     let old = c.index_mut-group.result.now in
     told_alike c.args.groups.now.items c.args.place c.follow.new.self old
     (followed_told c.args.names c.args.name old c.follow.new.self c.follow.result c.follow.ensures.ok c.follow.ensures.err
-    ∙ ap told_of c.index_mut-group.ensures.value)
+    ∙ ap group_head c.index_mut-group.ensures.value)
 
 pub returns-clause-still : goal.returns-clause-still
 returns-clause-still c =

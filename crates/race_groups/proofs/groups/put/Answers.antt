@@ -2,7 +2,7 @@ use Rattle.std.proofs.Common.{◌≡◌, List, Some, refl, subst, ◌∙◌, ari
 use Rattle.std.proofs.lemmas.Result.{on_ok_weaker}
 use Rattle.race_groups.specs.Found.{logs_of, name_of}
 use Rattle.race_groups.specs.declared.group.Group.{Group}
-use Rattle.race_groups.specs.Inner.{Counts, tolds_of, tracing_of}
+use Rattle.race_groups.specs.Inner.{Counts, group_heads, tracing_of}
 use Rattle.race_groups.proofs.AddsLemmas.{adds_none, adds_then}
 use Rattle.race_groups.proofs.CountLemmas.{side_more, still_none, still_on}
 use Rattle.race_groups.proofs.SideLemmas.{no_departed_log, none_looked_at, one_more}
@@ -18,7 +18,7 @@ pub loop-side-init : goal.loop-side-init
 loop-side-init g c =
     let groups = c.args.groups.now.items in (
       refl,
-      adds_none (tracing_of c.args.causes.now) (λ d. d ≡ g.R.SlotRace.difference c.args.race.now) (tolds_of groups) (tolds_of groups) refl,
+      adds_none (tracing_of c.args.causes.now) (λ d. d ≡ g.R.SlotRace.difference c.args.race.now) (group_heads groups) (group_heads groups) refl,
       still_none c.args.names groups groups refl,
       λ e. absurd (cc),
       λ e. none_looked_at (logs_of (g.R.SlotRace.difference c.args.race.now)) 0 refl,
@@ -28,8 +28,8 @@ loop-side-init g c =
 pub returns-in_err-counted-clause-adds : goal.returns-in_err-counted-clause-adds
 returns-in_err-counted-clause-adds g c =
     adds_then (tracing_of c.args.causes.now) (tracing_of c.loop-side.causes) (λ d. d ≡ g.R.SlotRace.difference c.args.race.now)
-    (tolds_of c.args.groups.now.items) (tolds_of c.loop-side.groups.items)
-    (tolds_of c.put_departed.new.groups.items) c.loop-side.invariant.0 c.loop-side.invariant.1 c.put_departed.ensures.adds
+    (group_heads c.args.groups.now.items) (group_heads c.loop-side.groups.items)
+    (group_heads c.put_departed.new.groups.items) c.loop-side.invariant.0 c.loop-side.invariant.1 c.put_departed.ensures.adds
 
 pub returns-in_err-counted-clause-still : goal.returns-in_err-counted-clause-still
 returns-in_err-counted-clause-still g c =
@@ -43,8 +43,8 @@ loop-side-preserved g c =
     let new = c.put_departed.new.groups.items in (
       c.put_departed.ensures.traced ∙ c.loop-side.invariant.0,
       adds_then (tracing_of c.args.causes.now) (tracing_of c.loop-side.causes) (λ d. d ≡ g.R.SlotRace.difference c.args.race.now)
-          (tolds_of groups) (tolds_of mid)
-          (tolds_of new) c.loop-side.invariant.0 c.loop-side.invariant.1 c.put_departed.ensures.adds,
+          (group_heads groups) (group_heads mid)
+          (group_heads new) c.loop-side.invariant.0 c.loop-side.invariant.1 c.put_departed.ensures.adds,
       still_on c.args.names groups mid new c.loop-side.invariant.2 c.put_departed.ensures.still,
       λ e. side_more c.args.names (g.R.SlotRace.difference c.args.race.now) groups mid new c.loop-side.counted c.loop-side.invariant.3
           c.loop-side.invariant.5 c.in_ok-counted.ensures.widens (c.in_ok-counted.ensures.counts e),
@@ -59,8 +59,8 @@ returns-then-counted-clause-counts g c = c.loop-side.invariant.3 c.if-counted.tr
 pub returns-clause-adds : goal.returns-clause-adds
 returns-clause-adds g c =
     adds_then (tracing_of c.args.causes.now) (tracing_of c.loop-side.causes) (λ d. d ≡ g.R.SlotRace.difference c.args.race.now)
-    (tolds_of c.args.groups.now.items) (tolds_of c.loop-side.groups.items)
-    (tolds_of c.put_side.new.groups.items) c.loop-side.invariant.0 c.loop-side.invariant.1 c.put_side.ensures.adds
+    (group_heads c.args.groups.now.items) (group_heads c.loop-side.groups.items)
+    (group_heads c.put_side.new.groups.items) c.loop-side.invariant.0 c.loop-side.invariant.1 c.put_side.ensures.adds
 
 pub returns-clause-still : goal.returns-clause-still
 returns-clause-still g c = still_on c.args.names c.args.groups.now.items c.loop-side.groups.items c.put_side.new.groups.items

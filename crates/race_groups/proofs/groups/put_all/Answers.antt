@@ -1,7 +1,7 @@
 use Rattle.std.proofs.Common.{length, map, refl, ◌∙◌, arith}
 use Rattle.std.specs.List.{Contains}
 use Rattle.std.proofs.lemmas.Option.{slice_get_read}
-use Rattle.race_groups.specs.Inner.{tolds_of, tracing_of}
+use Rattle.race_groups.specs.Inner.{group_heads, tracing_of}
 use Rattle.race_groups.proofs.AddsLemmas.{adds_none, adds_race}
 use Rattle.race_groups.proofs.CountLemmas.{all_races, no_race_yet, race_more, still_none, still_on}
 use Rattle.race_groups.proofs.groups.put_all.Goals as goal
@@ -10,8 +10,8 @@ pub loop-race-init : goal.loop-race-init
 loop-race-init g c =
     let groups = c.args.groups.now.items in (
       refl,
-      adds_none (tracing_of c.args.causes.now) (Contains (map g.R.SlotRace.difference c.args.races.now)) (tolds_of groups)
-          (tolds_of groups) refl,
+      adds_none (tracing_of c.args.causes.now) (Contains (map g.R.SlotRace.difference c.args.races.now)) (group_heads groups)
+          (group_heads groups) refl,
       λ apart. no_race_yet c.args.names g.R.SlotRace.difference c.args.races.now 0 groups refl,
       still_none c.args.names groups groups refl,
     )
@@ -22,7 +22,7 @@ returns-in_err-put-clause-adds g c =
     let i = c.loop-race.race-index in
     let race = c.race-item.result in
     adds_race (tracing_of c.args.causes.now) (tracing_of c.loop-race.causes) g.R.SlotRace.difference races i race
-    (tolds_of c.args.groups.now.items) (tolds_of c.loop-race.groups.items) (tolds_of c.put.new.groups.items)
+    (group_heads c.args.groups.now.items) (group_heads c.loop-race.groups.items) (group_heads c.put.new.groups.items)
     c.loop-race.invariant.0 (slice_get_read races (length races) i race refl c.loop-race-test.true c.race-item.is)
     c.loop-race.invariant.1 c.put.ensures.adds
 
@@ -39,7 +39,7 @@ loop-race-preserved g c =
     let at = slice_get_read races (length races) i race refl c.loop-race-test.true c.race-item.is in (
       c.put.ensures.traced ∙ c.loop-race.invariant.0,
       adds_race (tracing_of c.args.causes.now) (tracing_of c.loop-race.causes) g.R.SlotRace.difference races i race
-          (tolds_of c.args.groups.now.items) (tolds_of c.loop-race.groups.items) (tolds_of c.put.new.groups.items)
+          (group_heads c.args.groups.now.items) (group_heads c.loop-race.groups.items) (group_heads c.put.new.groups.items)
           c.loop-race.invariant.0 at c.loop-race.invariant.1 c.put.ensures.adds,
       λ apart. race_more c.args.names g.R.SlotRace.difference races i race c.args.groups.now.items c.loop-race.groups.items
           c.put.new.groups.items at

@@ -44,9 +44,9 @@ returns-in_default-clause-exact t c =
 
 pub returns-in-Constant-clause-exact : goal.returns-in-Constant-clause-exact
 returns-in-Constant-clause-exact t c =
-    by_node (λ tree more. c.own_value.result ≡ self_determined c.args.environment.now tree)
+    by_node (λ tree more. c.size_and_sign_of_value.result ≡ self_determined c.args.environment.now tree)
     c.args.nodes.now c.in-Some.node.now (Constant c.in-Constant.constant) c.in-Some.behind.now
-    c.in-Some.ensures.cases.0 c.in-Constant.is c.own_value.ensures.exact
+    c.in-Some.ensures.cases.0 c.in-Constant.is c.size_and_sign_of_value.ensures.exact
 
 pub returns-in-Constant-clause-rest : goal.returns-in-Constant-clause-rest
 returns-in-Constant-clause-rest t c =
@@ -56,10 +56,10 @@ returns-in-Constant-clause-rest t c =
 
 pub returns-in-Variable-clause-exact : goal.returns-in-Variable-clause-exact
 returns-in-Variable-clause-exact t c =
-    by_node (λ tree more. c.own_value-in-Variable.result ≡ self_determined c.args.environment.now tree)
+    by_node (λ tree more. c.size_and_sign_of_value-in-Variable.result ≡ self_determined c.args.environment.now tree)
     c.args.nodes.now c.in-Some.node.now (Variable c.in-Variable.number) c.in-Some.behind.now
     c.in-Some.ensures.cases.0 c.in-Variable.is
-    (c.own_value-in-Variable.ensures.exact ∙ ap (λ (v : Vector). size_and_sign (length v.letters) v.signed) c.value_at.ensures)
+    (c.size_and_sign_of_value-in-Variable.ensures.exact ∙ ap (λ (v : Vector). size_and_sign (length v.letters) v.signed) c.value_at.ensures)
 
 pub returns-in-Variable-clause-rest : goal.returns-in-Variable-clause-rest
 returns-in-Variable-clause-rest t c =

@@ -4,7 +4,7 @@ use Rattle.explore.specs.Ranked.{pairs_of}
 use Rattle.explore.specs.declared.rank_marks.FoundMark.{FoundMark}
 use Rattle.vmachine.specs.declared.machine_state.MachineState.{MachineState}
 use Rattle.vmodel.specs.Run.{Setting}
-use Rattle.race_groups.specs.Inner.{AreUncut, tolds_of}
+use Rattle.race_groups.specs.Inner.{AreUncut, group_heads}
 use Rattle.race_groups.proofs.CountLemmas.{still_none}
 use Rattle.race_groups.proofs.KeptLemmas.{takes_early, takes_late}
 use Rattle.race_groups.proofs.SumLemmas.{grows_none}
@@ -39,7 +39,7 @@ returns-then-time-self-clause-grows c =
     record {
       traced = refl;
       scope = refl;
-      groups = grows_none (tolds_of old.groups.items);
+      groups = grows_none (group_heads old.groups.items);
       still = still_none old.scope.names old.groups.items old.groups.items refl;
       ends = grows_none old.ends.items;
       cut = λ none. (c.either-self.ensures none).0;

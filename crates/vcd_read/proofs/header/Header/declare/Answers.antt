@@ -2,7 +2,7 @@ use Rattle.std.proofs.Common.{ℕ, List, ◌∷◌, ◌++◌, [], ap, subst, ◌
 use Rattle.vcd_read.specs.Words.{Text}
 use Rattle.vcd_read.specs.Numbers.{IsDecimal}
 use Rattle.vcd_read.specs.Bytes.{left}
-use Rattle.vcd_read.specs.Declarations.{end_word, variable_with}
+use Rattle.vcd_read.specs.Declarations.{end_word, declared_variable}
 use Rattle.vcd_read.specs.Declaring.{all_seen}
 use Rattle.vcd_read.proofs.WordLemmas.{more_come}
 use Rattle.vcd_read.proofs.HeaderLemmas.{lead_variable}
@@ -30,5 +30,5 @@ returns-clause-lead g c =
           (more_come (reference ∷ []) ending fourth fifth last c.in_ok-reference.ensures.word passed))),
       lead_variable c.args.self.now c.add.new.self kind size code reference range c.in-Some.width number without c.in_ok-add.ensures.prefix c.in_ok-add.ensures.outer c.in_ok-add.ensures.unit
           (c.in_ok-add.ensures.variables ∙ ap (λ (text : List ℕ). all_seen c.args.self.now.variables.items
-          ++ variable_with c.args.self.now.prefix.items text c.in-Some.width code ∷ []) c.deref.ensures.value),
+          ++ declared_variable c.args.self.now.prefix.items text c.in-Some.width code ∷ []) c.deref.ensures.value),
     )
