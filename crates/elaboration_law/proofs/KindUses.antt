@@ -10,6 +10,7 @@ use Rattle.vast.specs.NumberedWords.{Word}
 use Rattle.vast.specs.NumberedStatements.{ArgumentTree, quoted, printed, left_out}
 use Rattle.vast.specs.NumberedModules.{ModuleTree, SourceTree}
 use Rattle.vdesign.specs.Design.{Design}
+use Rattle.vdesign.specs.Expressions.{ExpressionTree}
 use Rattle.vdesign.specs.declared.action.Edge.{Edge}
 use Rattle.vdesign.specs.declared.action.Edge.TheVariants.{Any, Rise, Fall}
 use Rattle.vdesign.specs.declared.print.Piece.{Piece}
@@ -19,7 +20,8 @@ use Rattle.vdesign.specs.declared.print.Notation.TheVariants.{Binary, Octal, Hex
 use Rattle.vdesign.specs.declared.print.Width.{Width as FieldWidth}
 use Rattle.format_text.specs.declared.letters.Escape.TheVariants.{Plain}
 use Rattle.format_text.specs.Formats.{FormatFront, letters_of, front_of}
-use Rattle.format_text.specs.Pieces.{Argument, string, value, Taken, text_piece, without_form, last_pieces, value_taken, string_by, string_shown, string_taken, format_left, pieces_with_taken, pieces_by, pieces_of, with_line_end}
+use Rattle.format_text.specs.Pieces.{Argument, string, value, Taken, text_piece, without_form, last_pieces, value_taken, string_by, string_shown, string_taken, path_left, format_left, pieces_with_taken, pieces_by, pieces_of, with_line_end}
+use Rattle.format_text.proofs.PathLaws.{without_letters, same_forms}
 use Rattle.vmodules.specs.Hierarchy.{top_of}
 use Rattle.velab_expr.specs.declared.fault.Rule.{Rule}
 use Rattle.velab_expr.specs.declared.fault.Rule.TheVariants.{Top, Doubled, Unknown, Drivers, Ports, Width, Constant, Depth, TooMany, Kind}
@@ -38,7 +40,7 @@ use Rattle.velab_process.specs.Waits.{term_by}
 use Rattle.vhierarchy.specs.Instances.{elaborate_top, elaborated}
 use Rattle.elaboration_law.specs.Uses.{Way, Read, ReadIn, Written, WrittenIn, Driven, DrivenIn, Triggered, Awaited, Use, use_of, use_of_time, use_of_formats, use_of_levels}
 use Rattle.elaboration_law.specs.Places.{Thing, a_variable, a_parameter, an_event, an_instance, Place, thing_of, HasMisuse}
-use Rattle.elaboration_law.specs.Kinds.{parameter_suits, event_suits, is_ended, shows_letters, string_fits, takes_string, left_by, left_by_string, left_by_value, formats_fit}
+use Rattle.elaboration_law.specs.Kinds.{parameter_suits, event_suits, is_ended, shows_letters, string_fits, takes_string, left_by, left_by_string, left_by_value, forms_of, formats_fit}
 use Rattle.elaboration_law.proofs.StepLemmas.{same_value, then_ok}
 use Rattle.elaboration_law.proofs.UseLemmas.{Judges, required_judges, Question}
 use Rattle.elaboration_law.proofs.PlaceLemmas.{there_is, MeaningIs, IsAt}
@@ -177,16 +179,16 @@ taken_some None later = refl
 taken_some (Some taken) None = refl
 taken_some (Some taken) (Some later) = refl
 
-value_some : (default : Form) (front : Option FormatFront) (watched : Bool) (e : _) → is_some (value_taken default front watched e) ≡ is_some front
-value_some default None watched e = refl
-value_some default (Some front) watched e = refl
+value_some : (default : Form) (path : List ℕ) (front : Option FormatFront) (watched : Bool) (e : _) → is_some (value_taken default path front watched e) ≡ is_some front
+value_some default path None watched e = refl
+value_some default path (Some front) watched e = refl
 
-value_left : (default : Form) (front : Option FormatFront) (watched : Bool) (e : _) → format_left (value_taken default front watched e) ≡ left_by_value front
-value_left default None watched e = refl
-value_left default (Some front) watched e = refl
+value_left : (default : Form) (path : List ℕ) (front : Option FormatFront) (watched : Bool) (e : _) → format_left (value_taken default path front watched e) ≡ left_by_value front
+value_left default path None watched e = refl
+value_left default path (Some front) watched e = refl
 
-module _ (path letters : List ℕ) where
-  shown_some : (front : FormatFront) (width : FieldWidth) (notation : Notation) → is_some (string_shown front width notation letters) ≡ shows_letters notation
+module _ (path own letters : List ℕ) where
+  shown_some : (front : FormatFront) (width : FieldWidth) (notation : Notation) → is_some (string_shown path front width notation letters) ≡ shows_letters notation
   shown_some front width Binary = refl
   shown_some front width Octal = refl
   shown_some front width Hexadecimal = refl
@@ -196,7 +198,7 @@ module _ (path letters : List ℕ) where
   shown_some front width Letters = refl
 
   shown_left : (front : FormatFront) (width : FieldWidth) (notation : Notation) →
-      format_left (string_shown front width notation letters) ≡ (if shows_letters notation then front.rest else [])
+      format_left (string_shown path front width notation letters) ≡ (if shows_letters notation then front.rest else [])
   shown_left front width Binary = refl
   shown_left front width Octal = refl
   shown_left front width Hexadecimal = refl
@@ -205,53 +207,104 @@ module _ (path letters : List ℕ) where
   shown_left front width Character = refl
   shown_left front width Letters = refl
 
-  string_some : (front : Option FormatFront) → is_some (string_taken path front letters) ≡ takes_string front
+  string_some : (front : Option FormatFront) → is_some (string_taken path front own letters) ≡ takes_string front
   string_some None = refl
   string_some (Some front) = by front.form
     where
-      by : (form : Option Form) → is_some (string_by path front form letters) ≡ string_fits form
+      by : (form : Option Form) → is_some (string_by path front form own letters) ≡ string_fits form
       by None = refl
       by (Some form) = shown_some front form.width form.notation
 
-  string_left : (front : Option FormatFront) → format_left (string_taken path front letters) ≡ left_by_string path front letters
+  string_left : (front : Option FormatFront) → format_left (string_taken path front own letters) ≡ left_by_string front letters
   string_left None = refl
   string_left (Some front) = by front.form
     where
-      by : (form : Option Form) → format_left (string_by path front form letters) ≡ left_by path form front.rest letters
+      by : (form : Option Form) → format_left (string_by path front form own letters) ≡ left_by form front.rest letters
       by None = refl
       by (Some form) = shown_left front form.width form.notation
 
-formats_are : (default : Form) (scope : Scope) (format : List ℕ) (arguments : List ArgumentTree) (all : List Argument) → lower_arguments scope arguments ≡ Ok all →
-    is_some (pieces_by default format all) ≡ formats_fit format arguments
-formats_are default scope format [] all is =
-    sym (ap (λ (l : List Argument). is_some (pieces_by default format l)) (same_value [] all is)) ∙ last_ended (front_of format)
-formats_are default scope format (quoted letters ∷ more) all is =
+-- what is said of a front without its letters is said of it with any path
+any_path : {A : Type 0} (f : Option FormatFront → A) → ((front : Option FormatFront) → f (without_letters front) ≡ f front) → (path format : List ℕ) →
+    f (front_of path format) ≡ f (forms_of format)
+any_path f same path format = sym (same (front_of path format)) ∙ ap f (same_forms path [] format) ∙ same (forms_of format)
+
+forms_ended : (path format : List ℕ) → is_ended (front_of path format) ≡ is_ended (forms_of format)
+forms_ended path format = any_path is_ended by path format
+  where
+    by : (front : Option FormatFront) → is_ended (without_letters front) ≡ is_ended front
+    by None = refl
+    by (Some front) = refl
+
+forms_some : (path format : List ℕ) → is_some (front_of path format) ≡ is_some (forms_of format)
+forms_some path format = any_path (λ front. is_some front) by path format
+  where
+    by : (front : Option FormatFront) → is_some (without_letters front) ≡ is_some front
+    by None = refl
+    by (Some front) = refl
+
+forms_take : (path format : List ℕ) → takes_string (front_of path format) ≡ takes_string (forms_of format)
+forms_take path format = any_path takes_string by path format
+  where
+    by : (front : Option FormatFront) → takes_string (without_letters front) ≡ takes_string front
+    by None = refl
+    by (Some front) = refl
+
+module _ (path own letters format : List ℕ) where
+  string_fits_forms : is_some (string_taken path (front_of path format) own letters) ≡ takes_string (forms_of format)
+  string_fits_forms = string_some path own letters (front_of path format) ∙ forms_take path format
+
+  left_of_string : format_left (string_taken path (front_of path format) own letters) ≡ left_by_string (forms_of format) letters
+  left_of_string = string_left path own letters (front_of path format) ∙ any_path (λ front. left_by_string front letters) by path format
+    where
+      by : (front : Option FormatFront) → left_by_string (without_letters front) letters ≡ left_by_string front letters
+      by None = refl
+      by (Some front) = refl
+
+module _ (default : Form) (path format : List ℕ) (watched : Bool) (e : ExpressionTree) where
+  value_fits_forms : is_some (value_taken default path (front_of path format) watched e) ≡ is_some (forms_of format)
+  value_fits_forms = value_some default path (front_of path format) watched e ∙ forms_some path format
+
+  left_of_value : format_left (value_taken default path (front_of path format) watched e) ≡ left_by_value (forms_of format)
+  left_of_value = value_left default path (front_of path format) watched e ∙ any_path left_by_value by path format
+    where
+      by : (front : Option FormatFront) → left_by_value (without_letters front) ≡ left_by_value front
+      by None = refl
+      by (Some front) = refl
+
+formats_are : (default : Form) (scope : Scope) (path format : List ℕ) (arguments : List ArgumentTree) (all : List Argument) → lower_arguments scope arguments ≡ Ok all →
+    is_some (pieces_by default path format all) ≡ formats_fit format arguments
+formats_are default scope path format [] all is =
+    sym (ap (λ (l : List Argument). is_some (pieces_by default path format l)) (same_value [] all is)) ∙ last_ended (front_of path format) ∙ forms_ended path format
+formats_are default scope path format (quoted letters ∷ more) all is =
     let text = between_quotes letters.letters in
+    let plain = letters_of Plain text in
     let others = then_ok (lower_arguments scope more) (λ others. Ok (string letters.path text ∷ others)) all is in
-    let taken = string_taken letters.path (front_of format) (letters_of Plain text) in
-    sym (ap (λ (l : List Argument). is_some (pieces_by default format l)) (same_value (string letters.path text ∷ others.0) all others.2))
-    ∙ taken_some taken (pieces_by default (format_left taken) others.0)
-    ∙ ap (λ (l : List ℕ). is_some taken && is_some (pieces_by default l others.0)) (string_left letters.path (letters_of Plain text) (front_of format))
-    ∙ (λ i. string_some letters.path (letters_of Plain text) (front_of format) i
-    && formats_are default scope (left_by_string letters.path (front_of format) (letters_of Plain text)) more others.0 others.1 i)
-formats_are default scope format (left_out ∷ more) all is =
+    let taken = string_taken path (front_of path format) letters.path plain in
+    sym (ap (λ (l : List Argument). is_some (pieces_by default path format l)) (same_value (string letters.path text ∷ others.0) all others.2))
+    ∙ taken_some taken (pieces_by default (path_left taken) (format_left taken) others.0)
+    ∙ ap (λ (l : List ℕ). is_some taken && is_some (pieces_by default (path_left taken) l others.0)) (left_of_string path letters.path plain format)
+    ∙ (λ i. string_fits_forms path letters.path plain format i
+    && formats_are default scope (path_left taken) (left_by_string (forms_of format) plain) more others.0 others.1 i)
+formats_are default scope path format (left_out ∷ more) all is =
     let text = codes " " in
+    let plain = letters_of Plain text in
     let others = then_ok (lower_arguments scope more) (λ others. Ok (string [] text ∷ others)) all is in
-    let taken = string_taken [] (front_of format) (letters_of Plain text) in
-    sym (ap (λ (l : List Argument). is_some (pieces_by default format l)) (same_value (string [] text ∷ others.0) all others.2))
-    ∙ taken_some taken (pieces_by default (format_left taken) others.0)
-    ∙ ap (λ (l : List ℕ). is_some taken && is_some (pieces_by default l others.0)) (string_left [] (letters_of Plain text) (front_of format))
-    ∙ (λ i. string_some [] (letters_of Plain text) (front_of format) i
-    && formats_are default scope (left_by_string [] (front_of format) (letters_of Plain text)) more others.0 others.1 i)
-formats_are default scope format (printed tree ∷ more) all is =
+    let taken = string_taken path (front_of path format) [] plain in
+    sym (ap (λ (l : List Argument). is_some (pieces_by default path format l)) (same_value (string [] text ∷ others.0) all others.2))
+    ∙ taken_some taken (pieces_by default (path_left taken) (format_left taken) others.0)
+    ∙ ap (λ (l : List ℕ). is_some taken && is_some (pieces_by default (path_left taken) l others.0)) (left_of_string path [] plain format)
+    ∙ (λ i. string_fits_forms path [] plain format i
+    && formats_are default scope (path_left taken) (left_by_string (forms_of format) plain) more others.0 others.1 i)
+formats_are default scope path format (printed tree ∷ more) all is =
     let one = then_ok (lower_argument scope (printed tree)) (λ argument. lower_arguments scope more >>= λ others. Ok (argument ∷ others)) all is in
     let e = then_ok (lower_expression scope tree) (λ e. Ok (value (is_watched tree) e)) one.0 one.1 in
     let others = then_ok (lower_arguments scope more) (λ others. Ok (one.0 ∷ others)) all one.2 in
-    let taken = value_taken default (front_of format) (is_watched tree) e.0 in
-    sym (ap (λ (l : List Argument). is_some (pieces_by default format l)) (ap (λ (a : Argument). a ∷ others.0) (same_value (value (is_watched tree) e.0) one.0 e.2) ∙ same_value (one.0 ∷ others.0) all others.2))
-    ∙ taken_some taken (pieces_by default (format_left taken) others.0)
-    ∙ ap (λ (l : List ℕ). is_some taken && is_some (pieces_by default l others.0)) (value_left default (front_of format) (is_watched tree) e.0)
-    ∙ (λ i. value_some default (front_of format) (is_watched tree) e.0 i && formats_are default scope (left_by_value (front_of format)) more others.0 others.1 i)
+    let taken = value_taken default path (front_of path format) (is_watched tree) e.0 in
+    sym (ap (λ (l : List Argument). is_some (pieces_by default path format l)) (ap (λ (a : Argument). a ∷ others.0) (same_value (value (is_watched tree) e.0) one.0 e.2) ∙ same_value (one.0 ∷ others.0) all others.2))
+    ∙ taken_some taken (pieces_by default (path_left taken) (format_left taken) others.0)
+    ∙ ap (λ (l : List ℕ). is_some taken && is_some (pieces_by default (path_left taken) l others.0)) (left_of_value default path format (is_watched tree) e.0)
+    ∙ (λ i. value_fits_forms default path format (is_watched tree) e.0 i
+    && formats_are default scope (path_left taken) (left_by_value (forms_of format)) more others.0 others.1 i)
 
 ended_some : (ends : Bool) (pieces : Option (List Piece)) → is_some (with_line_end ends pieces) ≡ is_some pieces
 ended_some ends None = refl
@@ -265,7 +318,7 @@ formats_kind : (scope : Scope) (default : Form) (ends : Bool) (arguments : List 
     Judges is_kind (formats_fit [] arguments) (value_or_fault (pieces_of default ends all) Kind (first_argument arguments))
 formats_kind scope default ends arguments all is =
     subst (λ (b : Bool). Judges is_kind b (value_or_fault (pieces_of default ends all) Kind (first_argument arguments)))
-    (ended_some ends (pieces_by default [] all) ∙ formats_are default scope [] (arguments_given arguments) all is ∙ given_same (formats_fit []) refl arguments)
+    (ended_some ends (pieces_by default [] [] all) ∙ formats_are default scope [] [] (arguments_given arguments) all is ∙ given_same (formats_fit []) refl arguments)
     (found_kind (pieces_of default ends all) (first_argument arguments))
 
 pub kinds : Question

@@ -22,8 +22,8 @@ use Rattle.vdesign.specs.declared.print.Notation.TheVariants.{Binary, Octal, Hex
 use Rattle.vdesign.specs.declared.print.Width.{Width}
 use Rattle.vast.specs.declared.statement.Printing.{Printing}
 use Rattle.format_text.specs.declared.letters.Escape.TheVariants.{Plain}
-use Rattle.format_text.specs.Formats.{FormatFront, letters_of, front_of}
-use Rattle.format_text.specs.Pieces.{Argument, string, value, Taken, text_piece, without_form, last_pieces, letters_in, value_taken, string_by, string_shown, string_taken, format_left, pieces_with_taken, pieces_by, pieces_of, line_end, with_line_end}
+use Rattle.format_text.specs.Formats.{FormatFront, letters_of, letters_in, front_of}
+use Rattle.format_text.specs.Pieces.{Argument, string, value, Taken, text_piece, without_form, last_pieces, value_taken, string_by, string_shown, string_taken, path_left, format_left, pieces_with_taken, pieces_by, pieces_of, line_end, with_line_end}
 use Rattle.velab_expr.specs.declared.fault.Rule.TheVariants.{Kind}
 use Rattle.velab_expr.specs.declared.fault.ElabFault.{ElabFault}
 use Rattle.velab_expr.specs.Answers.{◌>>=◌, value_or_fault}
@@ -156,46 +156,47 @@ module _ (vs : List Variable) (place : Place) (scope : Scope) (h : IsAt place sc
   TakenBits b None = Unit {0}
   TakenBits b (Some taken) = list_all (piece_bits vs) taken.pieces ≡ b
 
-  value_bits : (usual : Form) (front : Option FormatFront) (watched : Bool) (e : ExpressionTree) → TakenBits (bits_in vs e) (value_taken usual front watched e)
-  value_bits usual None watched e = tt
-  value_bits usual (Some front) watched e =
+  value_bits : (usual : Form) (path : List ℕ) (front : Option FormatFront) (watched : Bool) (e : ExpressionTree) →
+      TakenBits (bits_in vs e) (value_taken usual path front watched e)
+  value_bits usual path None watched e = tt
+  value_bits usual path (Some front) watched e =
       list_all-append (piece_bits vs) (text_piece front.letters) (Value (unwrap_or front.form usual) watched e ∷ [])
       ∙ ap (λ (b : Bool). b && (bits_in vs e && true)) (text_bits front.letters) ∙ sym (and_true (bits_in vs e))
 
-  shown_bits : (front : FormatFront) (width : Width) (notation : Notation) (letters : List ℕ) → TakenBits true (string_shown front width notation letters)
-  shown_bits front width Binary letters = tt
-  shown_bits front width Octal letters = tt
-  shown_bits front width Hexadecimal letters = tt
-  shown_bits front width Decimal letters = tt
-  shown_bits front width Time letters = tt
-  shown_bits front width Character letters = tt
-  shown_bits front width Letters letters =
+  shown_bits : (path : List ℕ) (front : FormatFront) (width : Width) (notation : Notation) (letters : List ℕ) → TakenBits true (string_shown path front width notation letters)
+  shown_bits path front width Binary letters = tt
+  shown_bits path front width Octal letters = tt
+  shown_bits path front width Hexadecimal letters = tt
+  shown_bits path front width Decimal letters = tt
+  shown_bits path front width Time letters = tt
+  shown_bits path front width Character letters = tt
+  shown_bits path front width Letters letters =
       list_all-append (piece_bits vs) (text_piece front.letters) (text_piece (letters_in width letters))
       ∙ λ i. text_bits front.letters i && text_bits (letters_in width letters) i
 
-  string_bits : (path : List ℕ) (front : Option FormatFront) (letters : List ℕ) → TakenBits true (string_taken path front letters)
-  string_bits path None letters = tt
-  string_bits path (Some front) letters = by front.form
+  string_bits : (path : List ℕ) (front : Option FormatFront) (own letters : List ℕ) → TakenBits true (string_taken path front own letters)
+  string_bits path None own letters = tt
+  string_bits path (Some front) own letters = by front.form
     where
-      by : (form : Option Form) → TakenBits true (string_by path front form letters)
+      by : (form : Option Form) → TakenBits true (string_by path front form own letters)
       by None = text_bits front.letters
-      by (Some form) = shown_bits front form.width form.notation letters
+      by (Some form) = shown_bits path front form.width form.notation letters
 
   both_bits : (b c : Bool) (taken : Option Taken) (later : Option (List Piece)) → TakenBits b taken → Pieces c later → Pieces (b && c) (pieces_with_taken taken later)
   both_bits b c None later s t = tt
   both_bits b c (Some taken) None s t = tt
   both_bits b c (Some taken) (Some later) s t = list_all-append (piece_bits vs) taken.pieces later ∙ λ i. s i && t i
 
-  pieces_are : (usual : Form) (format : List ℕ) (all : List Argument) → Pieces (list_all argument_bits all) (pieces_by usual format all)
-  pieces_are usual format [] = last_bits (front_of format)
-  pieces_are usual format (string path letters ∷ more) =
-      let taken = string_taken path (front_of format) (letters_of Plain letters) in
-      both_bits true (list_all argument_bits more) taken (pieces_by usual (format_left taken) more) (string_bits path (front_of format) (letters_of Plain letters))
-      (pieces_are usual (format_left taken) more)
-  pieces_are usual format (value watched e ∷ more) =
-      let taken = value_taken usual (front_of format) watched e in
-      both_bits (bits_in vs e) (list_all argument_bits more) taken (pieces_by usual (format_left taken) more) (value_bits usual (front_of format) watched e)
-      (pieces_are usual (format_left taken) more)
+  pieces_are : (usual : Form) (path format : List ℕ) (all : List Argument) → Pieces (list_all argument_bits all) (pieces_by usual path format all)
+  pieces_are usual path format [] = last_bits (front_of path format)
+  pieces_are usual path format (string own letters ∷ more) =
+      let taken = string_taken path (front_of path format) own (letters_of Plain letters) in
+      both_bits true (list_all argument_bits more) taken (pieces_by usual (path_left taken) (format_left taken) more)
+      (string_bits path (front_of path format) own (letters_of Plain letters)) (pieces_are usual (path_left taken) (format_left taken) more)
+  pieces_are usual path format (value watched e ∷ more) =
+      let taken = value_taken usual path (front_of path format) watched e in
+      both_bits (bits_in vs e) (list_all argument_bits more) taken (pieces_by usual (path_left taken) (format_left taken) more)
+      (value_bits usual path (front_of path format) watched e) (pieces_are usual (path_left taken) (format_left taken) more)
 
   end_bits : (ends : Bool) → list_all (piece_bits vs) (line_end ends) ≡ true
   end_bits true = refl
@@ -210,7 +211,7 @@ module _ (vs : List Variable) (place : Place) (scope : Scope) (h : IsAt place sc
   line_says kind arguments =
       subst (λ (uses : List Use). Says (λ l. list_all (piece_bits vs) l) (hold uses) (lower_line scope kind arguments)) (given_same used_in_arguments refl arguments)
       (last_says (λ l. list_all argument_bits l) (λ l. list_all (piece_bits vs) l) (hold (used_in_arguments (arguments_given arguments))) (lower_arguments scope (arguments_given arguments)) _ (arguments_say (arguments_given arguments)) (λ all. by (list_all argument_bits all) (pieces_of (default_form kind) (ends_line kind) all)
-      (ended_bits (ends_line kind) (list_all argument_bits all) (pieces_by (default_form kind) [] all) (pieces_are (default_form kind) [] all))))
+      (ended_bits (ends_line kind) (list_all argument_bits all) (pieces_by (default_form kind) [] [] all) (pieces_are (default_form kind) [] [] all))))
     where
       by : (b : Bool) (pieces : Option (List Piece)) → Pieces b pieces → Says (λ l. list_all (piece_bits vs) l) b (value_or_fault pieces Kind (first_argument arguments))
       by b None s = tt

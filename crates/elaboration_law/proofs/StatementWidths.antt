@@ -26,8 +26,8 @@ use Rattle.vdesign.specs.declared.print.Notation.TheVariants.{Binary, Octal, Hex
 use Rattle.vdesign.specs.declared.print.Width.{Width}
 use Rattle.vast.specs.declared.statement.Printing.{Printing}
 use Rattle.format_text.specs.declared.letters.Escape.TheVariants.{Plain}
-use Rattle.format_text.specs.Formats.{FormatFront, letters_of, front_of}
-use Rattle.format_text.specs.Pieces.{Argument, string, value, Taken, text_piece, without_form, last_pieces, letters_in, value_taken, string_by, string_shown, string_taken, format_left, pieces_with_taken, pieces_by, pieces_of, line_end, with_line_end}
+use Rattle.format_text.specs.Formats.{FormatFront, letters_of, letters_in, front_of}
+use Rattle.format_text.specs.Pieces.{Argument, string, value, Taken, text_piece, without_form, last_pieces, value_taken, string_by, string_shown, string_taken, path_left, format_left, pieces_with_taken, pieces_by, pieces_of, line_end, with_line_end}
 use Rattle.vvalue.specs.Value.{Environment}
 use Rattle.vvalue.specs.Flaws.{flaw_of, targets_flaw}
 use Rattle.vvalue.specs.declared.flaw.Flaw.{Flaw}
@@ -231,46 +231,47 @@ module _ (now : Environment) where
   TakenHave flaw None = Unit {0}
   TakenHave flaw (Some taken) = first_flaw (piece_flaw now) taken.pieces ≡ flaw
 
-  value_flaw : (usual : Form) (front : Option FormatFront) (watched : Bool) (e : ExpressionTree) → TakenHave (flaw_of now e) (value_taken usual front watched e)
-  value_flaw usual None watched e = tt
-  value_flaw usual (Some front) watched e =
+  value_flaw : (usual : Form) (path : List ℕ) (front : Option FormatFront) (watched : Bool) (e : ExpressionTree) →
+      TakenHave (flaw_of now e) (value_taken usual path front watched e)
+  value_flaw usual path None watched e = tt
+  value_flaw usual path (Some front) watched e =
       flaws_joined (piece_flaw now) (text_piece front.letters) (Value (unwrap_or front.form usual) watched e ∷ [])
       ∙ ap (λ (flaw : Option Flaw). option_or flaw (option_or (flaw_of now e) None)) (text_flawless front.letters) ∙ flaw_none (flaw_of now e)
 
-  shown_flawless : (front : FormatFront) (width : Width) (notation : Notation) (letters : List ℕ) → TakenHave None (string_shown front width notation letters)
-  shown_flawless front width Binary letters = tt
-  shown_flawless front width Octal letters = tt
-  shown_flawless front width Hexadecimal letters = tt
-  shown_flawless front width Decimal letters = tt
-  shown_flawless front width Time letters = tt
-  shown_flawless front width Character letters = tt
-  shown_flawless front width Letters letters =
+  shown_flawless : (path : List ℕ) (front : FormatFront) (width : Width) (notation : Notation) (letters : List ℕ) → TakenHave None (string_shown path front width notation letters)
+  shown_flawless path front width Binary letters = tt
+  shown_flawless path front width Octal letters = tt
+  shown_flawless path front width Hexadecimal letters = tt
+  shown_flawless path front width Decimal letters = tt
+  shown_flawless path front width Time letters = tt
+  shown_flawless path front width Character letters = tt
+  shown_flawless path front width Letters letters =
       flaws_joined (piece_flaw now) (text_piece front.letters) (text_piece (letters_in width letters))
       ∙ λ i. option_or (text_flawless front.letters i) (text_flawless (letters_in width letters) i)
 
-  string_flawless : (path : List ℕ) (front : Option FormatFront) (letters : List ℕ) → TakenHave None (string_taken path front letters)
-  string_flawless path None letters = tt
-  string_flawless path (Some front) letters = by front.form
+  string_flawless : (path : List ℕ) (front : Option FormatFront) (own letters : List ℕ) → TakenHave None (string_taken path front own letters)
+  string_flawless path None own letters = tt
+  string_flawless path (Some front) own letters = by front.form
     where
-      by : (form : Option Form) → TakenHave None (string_by path front form letters)
+      by : (form : Option Form) → TakenHave None (string_by path front form own letters)
       by None = text_flawless front.letters
-      by (Some form) = shown_flawless front form.width form.notation letters
+      by (Some form) = shown_flawless path front form.width form.notation letters
 
   both_have : (a b : Option Flaw) (taken : Option Taken) (later : Option (List Piece)) → TakenHave a taken → Have b later → Have (option_or a b) (pieces_with_taken taken later)
   both_have a b None later s t = tt
   both_have a b (Some taken) None s t = tt
   both_have a b (Some taken) (Some later) s t = flaws_joined (piece_flaw now) taken.pieces later ∙ λ i. option_or (s i) (t i)
 
-  pieces_have : (usual : Form) (format : List ℕ) (all : List Argument) → Have (first_flaw argument_flaw all) (pieces_by usual format all)
-  pieces_have usual format [] = last_flawless (front_of format)
-  pieces_have usual format (string path letters ∷ more) =
-      let taken = string_taken path (front_of format) (letters_of Plain letters) in
-      both_have None (first_flaw argument_flaw more) taken (pieces_by usual (format_left taken) more) (string_flawless path (front_of format) (letters_of Plain letters))
-      (pieces_have usual (format_left taken) more)
-  pieces_have usual format (value watched e ∷ more) =
-      let taken = value_taken usual (front_of format) watched e in
-      both_have (flaw_of now e) (first_flaw argument_flaw more) taken (pieces_by usual (format_left taken) more) (value_flaw usual (front_of format) watched e)
-      (pieces_have usual (format_left taken) more)
+  pieces_have : (usual : Form) (path format : List ℕ) (all : List Argument) → Have (first_flaw argument_flaw all) (pieces_by usual path format all)
+  pieces_have usual path format [] = last_flawless (front_of path format)
+  pieces_have usual path format (string own letters ∷ more) =
+      let taken = string_taken path (front_of path format) own (letters_of Plain letters) in
+      both_have None (first_flaw argument_flaw more) taken (pieces_by usual (path_left taken) (format_left taken) more)
+      (string_flawless path (front_of path format) own (letters_of Plain letters)) (pieces_have usual (path_left taken) (format_left taken) more)
+  pieces_have usual path format (value watched e ∷ more) =
+      let taken = value_taken usual path (front_of path format) watched e in
+      both_have (flaw_of now e) (first_flaw argument_flaw more) taken (pieces_by usual (path_left taken) (format_left taken) more)
+      (value_flaw usual path (front_of path format) watched e) (pieces_have usual (path_left taken) (format_left taken) more)
 
   line_end_flawless : (ends : Bool) → first_flaw (piece_flaw now) (line_end ends) ≡ None
   line_end_flawless true = refl
@@ -367,7 +368,7 @@ module _ (scope : Scope) (named : Text → Worth) (vectors : AreVectors named) (
   line_told kind arguments =
       goes_on (first_flaw (argument_flaw now)) (first_flaw (piece_flaw now)) holds holds (lower_arguments scope (arguments_given arguments)) _ (λ e. e) told_given (λ all h.
       by (first_flaw (argument_flaw now) all) (pieces_of (default_form kind) (ends_line kind) all) h
-      (ended_have now (ends_line kind) (first_flaw (argument_flaw now) all) (pieces_by (default_form kind) [] all) (pieces_have now (default_form kind) [] all)))
+      (ended_have now (ends_line kind) (first_flaw (argument_flaw now) all) (pieces_by (default_form kind) [] [] all) (pieces_have now (default_form kind) [] [] all)))
     where
       holds : Bool
       holds = list_all (is_sized_argument named) arguments

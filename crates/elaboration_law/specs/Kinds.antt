@@ -15,7 +15,6 @@ use Rattle.vdesign.specs.declared.print.Notation.{Notation}
 use Rattle.vdesign.specs.declared.print.Notation.TheVariants.{Binary, Octal, Hexadecimal, Decimal, Time, Character, Letters}
 use Rattle.format_text.specs.declared.letters.Escape.TheVariants.{Plain}
 use Rattle.format_text.specs.Formats.{FormatFront, letters_of, front_of}
-use Rattle.format_text.specs.Pieces.{with_path}
 use Rattle.velab_expr.specs.Selections.{levels_in}
 use Rattle.velab_declaration.specs.Right.{is_net}
 use Rattle.velab_declaration.specs.Variables.{Declaration}
@@ -106,27 +105,31 @@ abbrev pub takes_string : Option FormatFront → Bool
 takes_string None = false
 takes_string (Some front) = string_fits front.form
 
--- what is left of the format then: of the string, where it is one, with the path in the place of each `%m` (17.1.1.6)
-abbrev pub left_by : List ℕ → Option Form → List ℕ → List ℕ → List ℕ
-left_by path None rest letters = with_path path letters
-left_by path (Some form) rest letters = if shows_letters form.notation then rest else []
+-- what is left of the format then: the string, where it is one
+abbrev pub left_by : Option Form → List ℕ → List ℕ → List ℕ
+left_by None rest letters = letters
+left_by (Some form) rest letters = if shows_letters form.notation then rest else []
 
-abbrev pub left_by_string : List ℕ → Option FormatFront → List ℕ → List ℕ
-left_by_string path None letters = []
-left_by_string path (Some front) letters = left_by path front.form front.rest letters
+abbrev pub left_by_string : Option FormatFront → List ℕ → List ℕ
+left_by_string None letters = []
+left_by_string (Some front) letters = left_by front.form front.rest letters
 
 abbrev pub left_by_value : Option FormatFront → List ℕ
 left_by_value None = []
 left_by_value (Some front) = front.rest
 
+-- where forms stand, whatever path `%m` shows (17.1.1.6): so it is read with none
+abbrev pub forms_of : List ℕ → Option FormatFront
+forms_of format = front_of [] format
+
 -- each string is of forms that are known, and each form has an argument that it can show, among what is left of a string and the
 -- arguments after it
 abbrev pub formats_fit : List ℕ → List ArgumentTree → Bool
-formats_fit format [] = is_ended (front_of format)
+formats_fit format [] = is_ended (forms_of format)
 formats_fit format (quoted letters ∷ more) =
-    takes_string (front_of format) && formats_fit (left_by_string letters.path (front_of format) (letters_of Plain (between_quotes letters.letters))) more
-formats_fit format (left_out ∷ more) = takes_string (front_of format) && formats_fit (left_by_string [] (front_of format) (codes " ")) more
-formats_fit format (printed tree ∷ more) = is_some (front_of format) && formats_fit (left_by_value (front_of format)) more
+    takes_string (forms_of format) && formats_fit (left_by_string (forms_of format) (letters_of Plain (between_quotes letters.letters))) more
+formats_fit format (left_out ∷ more) = takes_string (forms_of format) && formats_fit (left_by_string (forms_of format) (codes " ")) more
+formats_fit format (printed tree ∷ more) = is_some (forms_of format) && formats_fit (left_by_value (forms_of format)) more
 
 -- ---- the rule
 

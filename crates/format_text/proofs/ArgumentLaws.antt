@@ -7,8 +7,8 @@ use denote.Enum.Bare.{sameb}
 use Rattle.vdesign.specs.contracts.print.Notation.{the_type}
 use Rattle.vdesign.specs.declared.print.Piece.{Piece}
 use Rattle.format_text.specs.declared.letters.Escape.TheVariants.{Plain}
-use Rattle.format_text.specs.Formats.{FormatFront, front_of, letters_of}
-use Rattle.format_text.specs.Pieces.{Argument, string, PrintedText, HasTakenAllBut, argument_taken, format_left, letters_in, pieces_before, pieces_by, pieces_with, pieces_with_taken, string_by, string_shown, string_taken, text_piece}
+use Rattle.format_text.specs.Formats.{FormatFront, front_of, letters_in, letters_of}
+use Rattle.format_text.specs.Pieces.{Argument, string, PrintedText, HasTakenAllBut, argument_taken, format_left, path_left, pieces_before, pieces_by, pieces_with, pieces_with_taken, string_by, string_shown, string_taken, text_piece}
 
 before_none : (pieces : Option (List Piece)) → pieces_before [] pieces ≡ pieces
 before_none None = refl
@@ -16,23 +16,24 @@ before_none (Some pieces) = refl
 
 -- a new text has taken none
 pub none_taken : (default : Form) (arguments : List Argument) →
-    HasTakenAllBut (record { pieces = []; format = []; default = default }) arguments arguments
-none_taken default arguments = before_none (pieces_by default [] arguments)
+    HasTakenAllBut (record { pieces = []; path = []; format = []; default = default }) arguments arguments
+none_taken default arguments = before_none (pieces_by default [] [] arguments)
 
 before_both : (front next : List Piece) (pieces : Option (List Piece)) → pieces_before (front ++ next) pieces ≡ pieces_before front (pieces_before next pieces)
 before_both front next None = refl
 before_both front next (Some pieces) = ap Some (append_assoc front next pieces)
 
 -- a string that a form waits for
-pub shown_string : (old : PrintedText) (front : FormatFront) (form : Form) (path letters format : List ℕ) (one both : List Piece) (arguments : List Argument)
-    → front_of old.format ≡ Some front → front.form ≡ Some form → form.notation ≡ Letters → one ≡ old.pieces ++ text_piece front.letters
-    → both ≡ one ++ text_piece (letters_in form.width (letters_of Plain letters)) → format ≡ front.rest
-    → pieces_with (record { pieces = both; format = format; default = old.default }) arguments ≡ pieces_with old (string path letters ∷ arguments)
-shown_string old front form path letters format one both arguments front_is form_is letters_is one_is both_is format_is =
-    ap (λ xs. pieces_before xs (pieces_by old.default format arguments)) (both_is ∙ ap (λ xs. xs ++ second) one_is ∙ append_assoc old.pieces first second)
-    ∙ ap (λ xs. pieces_before (old.pieces ++ (first ++ second)) (pieces_by old.default xs arguments)) format_is
-    ∙ before_both old.pieces (first ++ second) (pieces_by old.default front.rest arguments)
-    ∙ ap (λ t. pieces_before old.pieces (pieces_with_taken t (pieces_by old.default (format_left t) arguments))) (sym taken_is)
+pub shown_string : (old : PrintedText) (front : FormatFront) (form : Form) (own letters path format : List ℕ) (one both : List Piece) (arguments : List Argument)
+    → front_of old.path old.format ≡ Some front → front.form ≡ Some form → form.notation ≡ Letters → one ≡ old.pieces ++ text_piece front.letters
+    → both ≡ one ++ text_piece (letters_in form.width (letters_of Plain letters)) → path ≡ old.path → format ≡ front.rest
+    → pieces_with (record { pieces = both; path = path; format = format; default = old.default }) arguments ≡ pieces_with old (string own letters ∷ arguments)
+shown_string old front form own letters path format one both arguments front_is form_is letters_is one_is both_is path_is format_is =
+    ap (λ xs. pieces_before xs (pieces_by old.default path format arguments)) (both_is ∙ ap (λ xs. xs ++ second) one_is ∙ append_assoc old.pieces first second)
+    ∙ ap (λ xs. pieces_before (old.pieces ++ (first ++ second)) (pieces_by old.default xs format arguments)) path_is
+    ∙ ap (λ xs. pieces_before (old.pieces ++ (first ++ second)) (pieces_by old.default old.path xs arguments)) format_is
+    ∙ before_both old.pieces (first ++ second) (pieces_by old.default old.path front.rest arguments)
+    ∙ ap (λ t. pieces_before old.pieces (pieces_with_taken t (pieces_by old.default (path_left t) (format_left t) arguments))) (sym taken_is)
   where
     first : List Piece
     first = text_piece front.letters
@@ -40,11 +41,11 @@ shown_string old front form path letters format one both arguments front_is form
     second : List Piece
     second = text_piece (letters_in form.width (letters_of Plain letters))
 
-    taken_is : argument_taken old.default (front_of old.format) (string path letters) ≡ Some (record { pieces = first ++ second; format = front.rest })
+    taken_is : argument_taken old.default old.path old.format (string own letters) ≡ Some (record { pieces = first ++ second; path = old.path; format = front.rest })
     taken_is =
-        ap (λ f. string_taken path f (letters_of Plain letters)) front_is
-        ∙ ap (λ f. string_by path front f (letters_of Plain letters)) form_is
-        ∙ ap (λ n. string_shown front form.width n (letters_of Plain letters)) letters_is
+        ap (λ f. string_taken old.path f own (letters_of Plain letters)) front_is
+        ∙ ap (λ f. string_by old.path front f own (letters_of Plain letters)) form_is
+        ∙ ap (λ n. string_shown old.path front form.width n (letters_of Plain letters)) letters_is
 
 apart : (P : Type 0) → false ≡ true → P
 apart P e = absurd cc

@@ -1,3 +1,4 @@
 mod Ends
 mod FrontLemmas
 pub mod ArgumentLaws
+pub mod PathLaws

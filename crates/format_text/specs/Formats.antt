@@ -1,10 +1,10 @@
 -- *trusted*: Formats of printed texts (IEEE 1364-2005, 17.1.1; docs/LANGUAGE.md, "Printed lines"): what a string prints, and where it
 -- shows the arguments after it.
-use Rattle.std.specs.Prelude.{ℕ, ◌==◌, ◌+◌, ◌-◌, ◌*◌, ◌%◌, ◌&&◌, nat_le, nat_lt, ◌||◌, Bool, if◌then◌else◌, List, [], ◌∷◌, ◌++◌, take, drop, Option, Some, None, option_map}
+use Rattle.std.specs.Prelude.{ℕ, ◌==◌, ◌+◌, ◌-◌, ◌*◌, ◌%◌, ◌&&◌, nat_le, nat_lt, ◌||◌, Bool, false, if◌then◌else◌, List, [], ◌∷◌, ◌++◌, Option, Some, None, option_map, option_and_then}
 use Rattle.format_text.specs.declared.letters.Escape.{Escape}
 use Rattle.format_text.specs.declared.letters.Escape.TheVariants.{Plain, Backslash, One, Two}
 use Rattle.std.specs.Char.{is_ascii_digit}
-use Rattle.std.specs.List.{prefix_len}
+use Rattle.value_text.specs.ValueText.{right_in}
 use Rattle.vdesign.specs.declared.print.Form.{Form}
 use Rattle.vdesign.specs.declared.print.Notation.{Notation}
 use Rattle.vdesign.specs.declared.print.Notation.TheVariants.{Binary, Octal, Hexadecimal, Decimal, Time, Character, Letters}
@@ -80,10 +80,6 @@ notation_of c =
     else if is_letter 115 83 c then Some Letters
     else None
 
-abbrev pub notation_at : List ℕ → Option Notation
-notation_at [] = None
-notation_at (c ∷ cs) = notation_of c
-
 -- the number of so many places, after those digits that came before; at most 999 (own)
 abbrev pub places_by : ℕ → List ℕ → Option ℕ
 places_by n [] = Some n
@@ -104,17 +100,14 @@ form_by None notation = None
 form_by (Some width) None = None
 form_by (Some width) (Some notation) = Some (record { notation = notation; width = width })
 
-abbrev pub digit_count : List ℕ → ℕ
-digit_count text = prefix_len is_ascii_digit text
+-- letters in a width (own)
+abbrev pub letters_in : Width → List ℕ → List ℕ
+letters_in Natural letters = letters
+letters_in Least letters = letters
+letters_in (Places places) letters = right_in places letters
+letters_in (Zeros places) letters = right_in places letters
 
--- the form at the front of a text, and what stands after it
-abbrev pub form_of : List ℕ → Option Form
-form_of text = form_by (width_of (take (digit_count text) text)) (notation_at (drop (digit_count text) text))
-
-abbrev pub text_after_form : List ℕ → List ℕ
-text_after_form text = drop 1 (drop (digit_count text) text)
-
--- ---- the front of a format: letters that are printed, the first form, if there is one, and what stands after it
+-- ---- the front of a format: letters that are printed, the first form that takes an argument, if there is one, and what stands after it
 
 pub record FormatFront : Type 0 where
   pub letters : List ℕ
@@ -125,15 +118,27 @@ abbrev pub front_with_form : List ℕ → Option Form → List ℕ → Option Fo
 front_with_form letters None rest = None
 front_with_form letters (Some form) rest = Some (record { letters = letters; form = Some form; rest = rest })
 
--- letters so far, and those that are left; `%` (37) begins a form, and `%%` prints `%`
-abbrev pub front_by : List ℕ → List ℕ → Option FormatFront
-front_by letters [] = Some (record { letters = letters; form = None; rest = [] })
-front_by letters (c ∷ []) = if c == 37 then None else Some (record { letters = letters ++ c ∷ []; form = None; rest = [] })
-front_by letters (c ∷ d ∷ cs) =
-    if c == 37 then
-    (if d == 37 then front_by (letters ++ d ∷ []) cs else front_with_form letters (form_of (d ∷ cs)) (text_after_form (d ∷ cs)))
-    else front_by (letters ++ c ∷ []) (d ∷ cs)
+-- `%%` has no digits
+abbrev pub is_percent : List ℕ → ℕ → Bool
+is_percent [] c = c == 37
+is_percent (digit ∷ digits) c = false
 
--- none where a `%` stands in it at its end, or before what is no form
-abbrev pub front_of : List ℕ → Option FormatFront
-front_of format = front_by [] format
+abbrev mutual
+  -- the path of the scope, letters so far, and those that are left: `%` (37) begins a form
+  pub front_by : List ℕ → List ℕ → List ℕ → Option FormatFront
+  front_by path letters [] = Some (record { letters = letters; form = None; rest = [] })
+  front_by path letters (c ∷ cs) = if c == 37 then front_in_form path letters [] cs else front_by path (letters ++ c ∷ []) cs
+
+  -- in a form, with its digits so far: behind them stands its letter. `%m` prints the path in the width that they say (17.1.1.6; the width: own),
+  -- and `%%` prints `%`; these take no argument
+  pub front_in_form : List ℕ → List ℕ → List ℕ → List ℕ → Option FormatFront
+  front_in_form path letters digits [] = None
+  front_in_form path letters digits (c ∷ cs) =
+      if is_ascii_digit c then front_in_form path letters (digits ++ c ∷ []) cs
+      else if is_letter 109 77 c then option_and_then (λ width. front_by path (letters ++ letters_in width path) cs) (width_of digits)
+      else if is_percent digits c then front_by path (letters ++ c ∷ []) cs
+      else front_with_form letters (form_by (width_of digits) (notation_of c)) cs
+
+-- with the path of the scope that the format stands in; none where a `%` stands in it at its end, or before what is no form
+abbrev pub front_of : List ℕ → List ℕ → Option FormatFront
+front_of path format = front_by path [] format

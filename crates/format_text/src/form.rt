@@ -1,9 +1,10 @@
 // Forms: what stands after a `%` (17.1.1.2, 17.1.1.3).
 
-ghost use Rattle.std.specs.Prelude.{◌≡◌, take};
+ghost use Rattle.std.specs.Prelude.{◌≡◌, ◌++◌, OnOk};
 ghost use Rattle.format_text.specs.Formats as spec;
 
-use basis::digits_len;
+use basis::NoMemory;
+use value_text::put_right;
 use vdesign::print::{Form, Notation, Width};
 
 /// Whether it is this letter, in either case.
@@ -13,8 +14,8 @@ pub(crate) fn is_letter(letter: u8, small: u8, large: u8) -> bool
     letter == small || letter == large
 }
 
-// What the letter of a form stands for.
-fn notation_of(letter: u8) -> Option<Notation>
+/// What the letter of a form stands for.
+pub(crate) fn notation_of(letter: u8) -> Option<Notation>
     ensures { result ≡ spec.notation_of letter }
 {
     if is_letter(letter, b'b', b'B') {
@@ -42,13 +43,6 @@ fn notation_of(letter: u8) -> Option<Notation>
         return Some(Notation::Letters);
     }
     None
-}
-
-fn notation_at(text: &[u8]) -> Option<Notation>
-    ensures { result ≡ spec.notation_at text.now }
-{
-    let (letter, _) = text.split_first()?;
-    notation_of(*letter)
 }
 
 // The number that these digits are, at most 999.
@@ -97,8 +91,8 @@ pub(crate) fn width_of(digits: &[u8]) -> Option<Width>
     }
 }
 
-// A form, where both are known.
-fn form_by(width: Option<Width>, notation: Option<Notation>) -> Option<Form>
+/// A form, where both are known.
+pub(crate) fn form_by(width: Option<Width>, notation: Option<Notation>) -> Option<Form>
     ensures { result ≡ spec.form_by width notation }
 {
     match width {
@@ -110,12 +104,15 @@ fn form_by(width: Option<Width>, notation: Option<Notation>) -> Option<Form>
     }
 }
 
-/// The form at the front of a text, and what stands after it.
-pub(crate) fn form_of(text: &[u8]) -> (Option<Form>, &[u8])
-    ensures form { result.0 ≡ spec.form_of text.now }
-    ensures rest { result.1.now ≡ spec.text_after_form text.now }
+/// Puts letters in a width.
+pub(crate) fn put_in(text: &mut Vec<u8>, width: Width, letters: &[u8]) -> Result<(), NoMemory>
+    ensures { OnOk result (text.new.items ≡ text.old.items ++ spec.letters_in width letters.now) }
 {
-    let (digits, letter) = text.split_at(digits_len(text));
-    let rest = letter.get(1..).unwrap_or(&[]);
-    (form_by(width_of(digits), notation_at(letter)), rest)
+    match width {
+        Width::Natural => text.extend_from_slice(letters)?,
+        Width::Least => text.extend_from_slice(letters)?,
+        Width::Places(places) => put_right(text, places as usize, letters)?,
+        Width::Zeros(places) => put_right(text, places as usize, letters)?,
+    }
+    Ok(())
 }

@@ -3,14 +3,14 @@
 ghost use Rattle.std.specs.Prelude.{◌≡◌, IfOk};
 ghost use Rattle.format_text.specs.Formats as spec;
 
-use crate::form::form_of;
-use basis::NoMemory;
+use crate::form::{form_by, is_letter, notation_of, put_in, width_of};
+use basis::{NoMemory, digits_len};
 use std::alloc::Global;
 use std::marker::Model;
 use vdesign::print::Form;
 
-/// The front of a format: the letters before its first form, that form, if there is one, and what stands after it. A clause sees it
-/// as the record `FormatFront` of specs/Formats.antt.
+/// The front of a format: the letters before its first form that takes an argument, that form, if there is one, and what stands after
+/// it. A clause sees it as the record `FormatFront` of specs/Formats.antt.
 #[derive(Drop)]
 pub(crate) struct FormatFront<'a> {
     pub(crate) letters: Vec<u8>,
@@ -44,37 +44,53 @@ fn front_with_form<'a>(
     }
 }
 
-/// The front of a format up to its first form and with it, or all of it. None where a `%` stands in it at its end, or before what is no
-/// form. E901 is the only refusal.
+// Whether it is the `%` of `%%`.
+fn is_percent(digits: &[u8], letter: u8) -> bool
+    ensures { result ≡ spec.is_percent digits.now letter }
+{
+    digits.is_empty() && letter == b'%'
+}
+
+/// The front of a format up to its first form that takes an argument and with it, or all of it; `%m` shows the path. None where a `%`
+/// stands in it at its end, or before what is no form. E901 is the only refusal.
 pub(crate) fn front_of<'a>(
     alloc: Global,
+    path: &[u8],
     format: &'a [u8],
 ) -> Result<Option<FormatFront<'a>>, NoMemory>
-    ensures { IfOk result (λ front. front ≡ spec.front_of format.now) }
+    ensures { IfOk result (λ front. front ≡ spec.front_of path.now format.now) }
 {
     let mut letters = Vec::new(alloc);
     let mut rest = format;
     'letters: loop {
-        let Some((letter, behind)) = rest.split_first() else {
+        let Some((first, behind)) = rest.split_first() else {
             return Ok(Some(FormatFront {
                 letters,
                 form: None,
                 rest: &[],
             }));
         };
-        if *letter != b'%' {
-            letters.push(*letter)?;
+        if *first != b'%' {
+            letters.push(*first)?;
             rest = behind;
             continue 'letters;
         }
-        let Some((next, after)) = behind.split_first() else {
+        let (digits, end) = behind.split_at(digits_len(behind));
+        let Some((letter, after)) = end.split_first() else {
             return Ok(None);
         };
-        if *next != b'%' {
-            let (form, left) = form_of(behind);
-            return Ok(front_with_form(letters, form, left));
-        }
-        letters.push(*next)?;
         rest = after;
+        if is_letter(*letter, b'm', b'M') {
+            let Some(width) = width_of(digits) else {
+                return Ok(None);
+            };
+            put_in(&mut letters, width, path)?;
+            continue 'letters;
+        }
+        if !is_percent(digits, *letter) {
+            let form = form_by(width_of(digits), notation_of(*letter));
+            return Ok(front_with_form(letters, form, after));
+        }
+        letters.push(*letter)?;
     }
 }

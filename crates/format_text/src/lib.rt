@@ -6,7 +6,6 @@
 mod form;
 mod front;
 mod letters;
-mod path;
 mod printer;
 
 pub use printer::Printer;

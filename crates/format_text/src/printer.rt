@@ -1,25 +1,26 @@
 // The pieces of a printed text, put together argument by argument (17.1.1).
 
 ghost use Rattle.std.specs.Prelude.{◌≡◌, ◌++◌, [], ◌∷◌, unwrap_or, drop, OnOk, IfOk};
+ghost use Rattle.format_text.specs.Formats.{letters_in as letters_in_width};
 ghost use Rattle.format_text.specs.Pieces as spec;
 ghost use Rattle.format_text.specs.Pieces.{TakesArgument, string as string_argument, value as value_argument};
 ghost use Rattle.format_text.specs.Reading.{Adds, IsEndOf};
 
+use crate::form::put_in;
 use crate::front::{FormatFront, front_of};
 use crate::letters::letters_of;
-use crate::path::with_path;
 use basis::NoMemory;
 use std::alloc::Global;
 use std::marker::Model;
-use value_text::put_right;
 use vdesign::expression::Expression;
 use vdesign::print::{Form, Notation, Piece, Pieces, Text, Width};
 
-/// The pieces of a printed text so far, what is left of the last string, whose forms take the arguments that come, and how a value is
-/// shown that no form takes. A clause sees it as the record `PrintedText` of specs/Pieces.antt.
+/// The pieces of a printed text so far; the path of the last string's scope, and what is left of that string, whose forms take the
+/// arguments that come; and how a value is shown that no form takes. A clause sees it as the record `PrintedText` of specs/Pieces.antt.
 #[derive(Drop)]
 pub struct Printer {
     pieces: Vec<Piece>,
+    path: Vec<u8>,
     format: Vec<u8>,
     at: usize,
     default: Form,
@@ -35,7 +36,7 @@ impl Model for Printer {
 
     ghost coded = { Prim.hlevel (codes, expression.the_row.coded) };
 
-    ghost view = { λ p. record { pieces = p.pieces.items; format = drop p.at p.format.items; default = p.default } };
+    ghost view = { λ p. record { pieces = p.pieces.items; path = p.path.items; format = drop p.at p.format.items; default = p.default } };
 }
 
 // What is left of a format from a place on.
@@ -99,35 +100,23 @@ fn put_value(
     Ok(())
 }
 
-// Letters on the right of so many places.
-fn align_right(alloc: Global, places: u32, letters: &[u8]) -> Result<Vec<u8>, NoMemory>
-    ensures { IfOk result (λ text. text.items ≡ spec.letters_in (Width.Places places) letters.now) }
+// Letters in a width.
+fn letters_in(alloc: Global, width: Width, letters: &[u8]) -> Result<Vec<u8>, NoMemory>
+    ensures { IfOk result (λ text. text.items ≡ letters_in_width width letters.now) }
 {
     let mut text = Vec::new(alloc);
-    put_right(&mut text, places as usize, letters)?;
+    put_in(&mut text, width, letters)?;
     Ok(text)
-}
-
-/// Letters in a width.
-pub(crate) fn letters_in(width: Width, letters: Vec<u8>) -> Result<Vec<u8>, NoMemory>
-    ensures { IfOk result (λ text. text.items ≡ spec.letters_in width letters.items) }
-{
-    let alloc = *letters.allocator();
-    match width {
-        Width::Natural => Ok(letters),
-        Width::Least => Ok(letters),
-        Width::Places(places) => align_right(alloc, places, &letters),
-        Width::Zeros(places) => align_right(alloc, places, &letters),
-    }
 }
 
 impl Printer {
     /// A text of which no argument has come yet, and the form of values that no format takes.
     pub fn new(alloc: Global, default: Form) -> Printer
-        ensures { result ≡ record { pieces = []; format = []; default = default } }
+        ensures { result ≡ record { pieces = []; path = []; format = []; default = default } }
     {
         Printer {
             pieces: Vec::new(alloc),
+            path: Vec::new(alloc),
             format: Vec::new(alloc),
             at: 0,
             default,
@@ -143,7 +132,7 @@ impl Printer {
     {
         let alloc = *self.format.allocator();
         let format = self.format.as_slice();
-        let Some(front) = front_of(alloc, left_of(format, self.at))? else {
+        let Some(front) = front_of(alloc, &self.path, left_of(format, self.at))? else {
             return Ok(false);
         };
         let at = place_of(format, front.rest);
@@ -152,7 +141,8 @@ impl Printer {
         match form {
             None => {
                 put_text(&mut self.pieces, letters)?;
-                self.format = with_path(alloc, path, &string)?;
+                self.path = Vec::from_slice(alloc, path)?;
+                self.format = string;
                 self.at = 0;
                 Ok(true)
             }
@@ -161,7 +151,7 @@ impl Printer {
                     return Ok(false);
                 }
                 put_text(&mut self.pieces, letters)?;
-                put_text(&mut self.pieces, letters_in(form.width, string)?)?;
+                put_text(&mut self.pieces, letters_in(alloc, form.width, &string)?)?;
                 self.at = at;
                 Ok(true)
             }
@@ -175,7 +165,7 @@ impl Printer {
     {
         let alloc = *self.format.allocator();
         let format = self.format.as_slice();
-        let Some(front) = front_of(alloc, left_of(format, self.at))? else {
+        let Some(front) = front_of(alloc, &self.path, left_of(format, self.at))? else {
             return Ok(false);
         };
         let at = place_of(format, front.rest);
@@ -193,13 +183,14 @@ impl Printer {
     {
         let Printer {
             pieces,
+            path,
             format,
             at,
             ..
         } = self;
         let mut pieces = pieces;
         let alloc = *format.allocator();
-        let front = front_of(alloc, left_of(&format, at))?;
+        let front = front_of(alloc, &path, left_of(&format, at))?;
         if !put_last(&mut pieces, front)? {
             return Ok(None);
         }

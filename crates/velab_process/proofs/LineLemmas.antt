@@ -61,7 +61,7 @@ ended old (Err fault) is_right new goes = absurd goes
 
 -- the pieces of a text are those of its arguments, where it is right
 whole_line : (default : Form) (ends : Bool) (old : PrintedText) (arguments : List Argument) (is_right : Bool) (new : PrintedText) (pieces : Option (List Piece)) →
-    old ≡ record { pieces = []; format = []; default = default } → Prints old arguments is_right new → pieces ≡ with_line_end ends (pieces_with new []) →
+    old ≡ record { pieces = []; path = []; format = []; default = default } → Prints old arguments is_right new → pieces ≡ with_line_end ends (pieces_with new []) →
     pieces_of default ends arguments ≡ right_pieces is_right pieces
 whole_line default ends old arguments true new pieces starts prints is =
     ap (with_line_end ends) (sym (prints ∙ ap (λ (o : PrintedText). pieces_with o arguments) starts ∙ none_taken default arguments)) ∙ sym is
@@ -70,13 +70,13 @@ whole_line default ends old arguments false new pieces starts prints is =
 
 pub line_by : (default form : Form) (ends line_ends : Bool) (answer : Result (List Argument) ElabFault) (is_right : Bool) (old new : PrintedText)
     (pieces right : Option (List Piece)) (word : Option Word) → form ≡ default → line_ends ≡ ends →
-    old ≡ record { pieces = []; format = []; default = form } → HasOk answer (λ all. Prints old all is_right new) →
+    old ≡ record { pieces = []; path = []; format = []; default = form } → HasOk answer (λ all. Prints old all is_right new) →
     pieces ≡ with_line_end line_ends (pieces_with new []) → right ≡ right_pieces is_right pieces →
     (answer >>= λ all. value_or_fault (pieces_of default ends all) Kind word) ≡ value_or_fault right Kind word
 line_by default form ends line_ends (Ok all) is_right old new pieces right word form_is ends_is starts prints is same =
     ap (λ (ps : Option (List Piece)). value_or_fault ps Kind word)
     (whole_line default ends old all is_right new pieces
-    (starts ∙ ap (λ (f : Form). record { pieces = []; format = []; default = f }) form_is) prints
+    (starts ∙ ap (λ (f : Form). record { pieces = []; path = []; format = []; default = f }) form_is) prints
     (is ∙ ap (λ (e : Bool). with_line_end e (pieces_with new [])) ends_is)
     ∙ sym same)
 line_by default form ends line_ends (Err fault) is_right old new pieces right word form_is ends_is starts prints is same = absurd prints

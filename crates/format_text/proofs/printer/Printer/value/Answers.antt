@@ -5,5 +5,5 @@ use Rattle.format_text.proofs.printer.Printer.value.Goals as goal
 
 pub place_of-at-requires : goal.place_of-at-requires
 place_of-at-requires c =
-    let is_read = c.in_ok-front.ensures ∙ ap front_of c.left_of.ensures in
-    end_after_front _ c.self.inside.at _ _ _ is_read c.in-Some.is (ap (λ front. front.rest) (sym c.front.view_is))
+    let is_read = c.in_ok-front.ensures ∙ (λ i. front_of (c.deref.ensures.value i) (c.left_of.ensures i)) in
+    end_after_front _ _ c.self.inside.at _ _ _ is_read c.in-Some.is (ap (λ front. front.rest) (sym c.front.view_is))
