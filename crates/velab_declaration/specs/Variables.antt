@@ -6,6 +6,8 @@ use Rattle.vbits.specs.Vectors.{filled}
 use Rattle.vast.specs.Words.{Text}
 use Rattle.vast.specs.NumberedWords.{Word}
 use Rattle.vmodules.specs.Ports.{Second, Port, type_in, ports_of, own_items, is_plain_list}
+use Rattle.vmodules.specs.declared.ports.PortKind.{PortKind}
+use Rattle.vmodules.specs.declared.ports.PortKind.TheVariants as ports
 use Rattle.vast.specs.NumberedModules.{RangeTree, DeclarationKind, variables, integers, directed, DeclaredTree, ItemTree, parameters, declaration, events, assignments, initial, always, instances, ModuleTree}
 use Rattle.vast.specs.declared.module.NetKind.{NetKind}
 use Rattle.vast.specs.declared.module.NetKind.TheVariants as net
@@ -68,20 +70,25 @@ port_names m = map (λ p. p.name) (ports_of m)
 abbrev pub declared_names : ModuleTree → List Word
 declared_names m = port_names m ++ map (λ d. d.name) (declarations m)
 
--- A.2.1.2: what a port is declared as: by its net, or as an `integer` or a `time`, which has its own sign and no range (4.8)
-abbrev pub kind_with : NetKind → Option Bool → Kind
-kind_with word None = kind_of word
-kind_with word (Some long) = integer_kind long
+-- A.2.1.2: a port is declared as what it is
+abbrev pub declared_kind : PortKind → Kind
+declared_kind ports.Wire = Wire
+declared_kind ports.Reg = Reg
+declared_kind ports.Integer = Integer
+declared_kind ports.Time = Time
 
-abbrev pub signed_with : Bool → Option Bool → Bool
-signed_with signed None = signed
-signed_with signed (Some long) = not long
+-- and signed where its type is; 4.8: an `integer` has a sign, a `time` has none
+abbrev pub declared_signed : PortKind → Bool → Bool
+declared_signed ports.Wire signed = signed
+declared_signed ports.Reg signed = signed
+declared_signed ports.Integer signed = true
+declared_signed ports.Time signed = false
 
 abbrev pub port_kind : Port → Kind
-port_kind p = kind_with p.net p.long
+port_kind p = declared_kind p.kind
 
 abbrev pub port_signed : Port → Bool
-port_signed p = signed_with p.type.signed p.long
+port_signed p = declared_signed p.kind p.type.signed
 
 -- 12.3.3: a port is declared where it stands
 abbrev pub port_declaration : Port → Declaration

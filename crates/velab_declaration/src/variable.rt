@@ -26,7 +26,7 @@ use velab_expr::symbol::symbol_count;
 use vlex::Tokens;
 use vmodules::letters::letters;
 use vmodules::names::Names;
-use vmodules::ports::{PortForm, SecondForm, is_plain_list, plain_names, type_in};
+use vmodules::ports::{PortForm, PortKind, SecondForm, is_plain_list, plain_names, type_in};
 
 /// How names are declared: what a declaration says of each of them.
 #[derive(Clone, Copy)]
@@ -299,19 +299,21 @@ fn port_bounds(
         (lower_bounds scope.now (port_form (words_of tokens.now) port.now).type.range) }
     ensures few { IfOk result IsNarrow }
 {
-    match port.kind {
+    match port.sign_and_range {
         None => Ok(None),
         Some(kind) => range_bounds(alloc, scope, tokens, &kind.range),
     }
 }
 
-// What a port is: as its net, or as an integer or a time.
-fn port_kind(port: &PortForm<'_>) -> Kind
-    ensures { result ≡ variables.kind_with port.now.net port.now.long }
+// What a port is declared as.
+fn declared_kind(kind: PortKind) -> Kind
+    ensures { result ≡ variables.declared_kind kind }
 {
-    match port.long {
-        None => kind_of(port.net),
-        Some(long) => integer_kind(long),
+    match kind {
+        PortKind::Wire => Kind::Wire,
+        PortKind::Reg => Kind::Reg,
+        PortKind::Integer => Kind::Integer,
+        PortKind::Time => Kind::Time,
     }
 }
 
@@ -319,7 +321,7 @@ fn port_kind(port: &PortForm<'_>) -> Kind
 fn type_signed(port: &PortForm<'_>) -> bool
     ensures { (words : List Text) → result ≡ (port_form words port.now).type.signed }
 {
-    let signed = match port.kind {
+    let signed = match port.sign_and_range {
         None => false,
         Some(kind) => kind.signed,
     };
@@ -333,9 +335,11 @@ fn type_signed(port: &PortForm<'_>) -> bool
 fn port_signed(port: &PortForm<'_>) -> bool
     ensures { (words : List Text) → result ≡ variables.port_signed (port_form words port.now) }
 {
-    match port.long {
-        None => type_signed(port),
-        Some(long) => !long,
+    match port.kind {
+        PortKind::Wire => type_signed(port),
+        PortKind::Reg => type_signed(port),
+        PortKind::Integer => true,
+        PortKind::Time => false,
     }
 }
 
@@ -393,7 +397,7 @@ fn put_port(
     let own = port_bounds(alloc, tokens, scope, port)?;
     let bounds = whole_bounds(alloc, tokens, scope, port.again, own)?;
     let form = Form {
-        kind: port_kind(port),
+        kind: declared_kind(port.kind),
         signed: port_signed(port),
         bounds,
     };

@@ -90,9 +90,8 @@ abbrev pub port_form : List Text → PortForm → Port
 port_form words form = record {
   name = word_of words form.name;
   output = form.output;
-  net = form.net;
-  type = type_with (type_for words form.kind) (option_map (second_form words) form.again);
-  long = form.long;
+  kind = form.kind;
+  type = type_with (type_for words form.sign_and_range) (option_map (second_form words) form.again);
   again = option_map (second_form words) form.again;
 }
 

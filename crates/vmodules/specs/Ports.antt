@@ -7,7 +7,9 @@ use Rattle.vast.specs.Words.{Text}
 use Rattle.vast.specs.NumberedWords.{Word}
 use Rattle.vast.specs.NumberedModules.{TypeTree, DirectionTree, input, output, output_integer, PortTree, DeclarationKind, variables, integers, directed, DeclaredTree, ItemTree, parameters, declaration, events, assignments, initial, always, instances, ModuleTree}
 use Rattle.vast.specs.declared.module.NetKind.{NetKind}
-use Rattle.vast.specs.declared.module.NetKind.TheVariants.{Wire, Reg}
+use Rattle.vast.specs.declared.module.NetKind.TheVariants as nets
+use Rattle.vmodules.specs.declared.ports.PortKind.{PortKind}
+use Rattle.vmodules.specs.declared.ports.PortKind.TheVariants.{Wire, Reg, Integer, Time}
 use Rattle.vmodules.specs.Names.{is_declared, letters_of}
 
 -- 12.3.3: a net or a variable that an item declares besides a port of its name
@@ -19,9 +21,8 @@ pub record Second : Type 0 where
 pub record Port : Type 0 where
   pub name : Word
   pub output : Bool
-  pub net : NetKind
+  pub kind : PortKind
   pub type : TypeTree
-  pub long : Option Bool  -- of an `integer` or a `time`: whether it is the longer one
   pub again : Option Second
 
 -- no sign and no range
@@ -34,14 +35,22 @@ type_in (input wire type) = type
 type_in (output net type) = type
 type_in (output_integer long) = bare
 
+-- 4.2.1, 4.2.2
+abbrev pub kind_of : NetKind → PortKind
+kind_of nets.Wire = Wire
+kind_of nets.Reg = Reg
+
+-- 4.8: a `time` is the longer one
+abbrev pub integer_kind : Bool → PortKind
+integer_kind long = if long then Time else Integer
+
 -- 12.3.3: a port that goes this way is a net, save where a word says `reg`, `integer` or `time`; without any direction it is an input
 abbrev pub port_by : Option DirectionTree → Word → Port
-port_by None name = record { name = name; output = false; net = Wire; type = bare; long = None; again = None }
-port_by (Some (input wire type)) name = record { name = name; output = false; net = Wire; type = type; long = None; again = None }
+port_by None name = record { name = name; output = false; kind = Wire; type = bare; again = None }
+port_by (Some (input wire type)) name = record { name = name; output = false; kind = Wire; type = type; again = None }
 port_by (Some (output net type)) name =
-    record { name = name; output = true; net = unwrap_or net Wire; type = type; long = None; again = None }
-port_by (Some (output_integer long)) name =
-    record { name = name; output = true; net = Reg; type = bare; long = Some long; again = None }
+    record { name = name; output = true; kind = kind_of (unwrap_or net nets.Wire); type = type; again = None }
+port_by (Some (output_integer long)) name = record { name = name; output = true; kind = integer_kind long; type = bare; again = None }
 
 -- 12.3.4: a port without a direction has the whole direction of the one before it
 abbrev pub ports_behind : Option DirectionTree → List PortTree → List Port
@@ -105,10 +114,13 @@ abbrev pub second_for : List ItemTree → Text → Option Second
 second_for [] name = None
 second_for (item ∷ more) name = option_or (second_by item name) (second_for more name)
 
--- 12.3.3: a port that is declared again is such a net or variable, and signed where either is
-abbrev pub net_with : NetKind → Option Second → NetKind
-net_with net None = net
-net_with net (Some second) = second.net
+-- 12.3.3: a port that is declared again is such a net or variable, and signed where either is; an `integer` or a `time` was declared whole
+abbrev pub kind_with : PortKind → Option Second → PortKind
+kind_with kind None = kind
+kind_with Wire (Some second) = kind_of second.net
+kind_with Reg (Some second) = kind_of second.net
+kind_with Integer (Some second) = Integer
+kind_with Time (Some second) = Time
 
 abbrev pub type_with : TypeTree → Option Second → TypeTree
 type_with type None = type
@@ -116,7 +128,7 @@ type_with type (Some second) = record { signed = type.signed || second.type.sign
 
 abbrev pub with_second : Port → Option Second → Port
 with_second p second =
-    record { name = p.name; output = p.output; net = net_with p.net second; type = type_with p.type second; long = p.long; again = second }
+    record { name = p.name; output = p.output; kind = kind_with p.kind second; type = type_with p.type second; again = second }
 
 abbrev pub declared_port : List ItemTree → Word → Port
 declared_port items name = with_second (port_by (direction_for items name.letters) name) (second_for items name.letters)
@@ -168,7 +180,7 @@ ports_declared None = []
 ports_declared (Some list) = map port_declared list
 
 abbrev pub port_values : ModuleTree → ItemTree
-port_values m = declaration (variables Reg bare) (ports_declared m.ports)
+port_values m = declaration (variables nets.Reg bare) (ports_declared m.ports)
 
 -- the items that make processes: those values, and then its items
 abbrev pub process_items : ModuleTree → List ItemTree

@@ -21,6 +21,19 @@ use vast::module::{
 use vast::token::Token;
 use vlex::Tokens;
 
+/// What a port is (IEEE 1364-2005, 12.3.3): a net, or one of three kinds of variables (4.2, 4.8).
+#[derive(Clone, Copy)]
+pub enum PortKind {
+    /// `wire`
+    Wire,
+    /// `reg`
+    Reg,
+    /// `integer`
+    Integer,
+    /// `time`
+    Time,
+}
+
 /// A net or a variable that an item declares besides a port of its name (12.3.3).
 #[derive(Clone, Copy)]
 pub struct SecondForm<'u> {
@@ -29,15 +42,13 @@ pub struct SecondForm<'u> {
     pub kind: &'u SignAndRange,
 }
 
-/// A port: its name, which way it goes, whether it is a variable, and its sign and range where they are written; of an `integer` or a `time`
-/// whether it is the longer one; and as what an item declares it again.
+/// A port: its name, which way it goes, what it is, its sign and range where they are written, and as what an item declares it again.
 #[derive(Clone, Copy)]
 pub struct PortForm<'u> {
     pub name: Token,
     pub output: bool,
-    pub net: NetKind,
-    pub kind: Option<&'u SignAndRange>,
-    pub long: Option<bool>,
+    pub kind: PortKind,
+    pub sign_and_range: Option<&'u SignAndRange>,
     pub again: Option<SecondForm<'u>>,
 }
 
@@ -65,6 +76,27 @@ fn net_of(net: Option<NetKind>) -> NetKind
     }
 }
 
+// A net or a `reg`, as a port (4.2.1, 4.2.2).
+fn kind_of(net: NetKind) -> PortKind
+    ensures { result ≡ spec.kind_of net }
+{
+    match net {
+        NetKind::Wire => PortKind::Wire,
+        NetKind::Reg => PortKind::Reg,
+    }
+}
+
+// An `integer`, or where it is the longer one a `time` (4.8).
+fn integer_kind(long: bool) -> PortKind
+    ensures { result ≡ spec.integer_kind long }
+{
+    if long {
+        PortKind::Time
+    } else {
+        PortKind::Integer
+    }
+}
+
 /// The type that stands with a direction: `integer` and `time` have no sign and no range that are written.
 pub fn type_in(direction: &Direction) -> Option<&SignAndRange>
     ensures { (words : List Text) → type_for words result ≡
@@ -87,33 +119,29 @@ fn form_by<'u>(direction: Option<&'u Direction>, name: Token) -> PortForm<'u>
         None => PortForm {
             name,
             output: false,
-            net: NetKind::Wire,
-            kind: None,
-            long: None,
+            kind: PortKind::Wire,
+            sign_and_range: None,
             again: None,
         },
         Some(Direction::Input { kind, .. }) => PortForm {
             name,
             output: false,
-            net: NetKind::Wire,
-            kind: Some(kind),
-            long: None,
+            kind: PortKind::Wire,
+            sign_and_range: Some(kind),
             again: None,
         },
         Some(Direction::Output { net, kind }) => PortForm {
             name,
             output: true,
-            net: net_of(*net),
-            kind: Some(kind),
-            long: None,
+            kind: kind_of(net_of(*net)),
+            sign_and_range: Some(kind),
             again: None,
         },
         Some(Direction::OutputInteger { long }) => PortForm {
             name,
             output: true,
-            net: NetKind::Reg,
-            kind: None,
-            long: Some(*long),
+            kind: integer_kind(*long),
+            sign_and_range: None,
             again: None,
         },
     }
@@ -272,14 +300,19 @@ fn second_for<'u>(
     None
 }
 
-// What holds the value of a port that may be declared again.
-fn net_with(net: NetKind, again: Option<SecondForm<'_>>) -> NetKind
+// What a port is that may be declared again.
+fn kind_with(kind: PortKind, again: Option<SecondForm<'_>>) -> PortKind
     ensures { (words : List Text) →
-        result ≡ spec.net_with net (option_map (second_form words) again.entry) }
+        result ≡ spec.kind_with kind (option_map (second_form words) again.entry) }
 {
     match again {
-        None => net,
-        Some(second) => second.net,
+        None => kind,
+        Some(second) => match kind {
+            PortKind::Wire => kind_of(second.net),
+            PortKind::Reg => kind_of(second.net),
+            PortKind::Integer => PortKind::Integer,
+            PortKind::Time => PortKind::Time,
+        },
     }
 }
 
@@ -292,9 +325,8 @@ fn with_second<'u>(form: PortForm<'u>, again: Option<SecondForm<'u>>) -> PortFor
     PortForm {
         name: form.name,
         output: form.output,
-        net: net_with(form.net, again),
-        kind: form.kind,
-        long: form.long,
+        kind: kind_with(form.kind, again),
+        sign_and_range: form.sign_and_range,
         again,
     }
 }
