@@ -1,16 +1,17 @@
 // What the numbers of faults mean. docs/FAULTS.md has the same table, and `tests/faults` compares the two.
 
+use basis::number_in;
 use std::io;
 
 /// A number, what it means, a text that earns it, and what to do.
 pub struct Explanation {
-    number: u16,
+    number: u64,
     meaning: &'static str,
     example: &'static str,
     advice: &'static str,
 }
 
-const EXPLANATIONS: [Explanation; 34] = [
+static OF_LETTERS: [Explanation; 7] = [
     Explanation {
         number: 101,
         meaning: "a comment or a string that begins here isn't ended",
@@ -53,6 +54,9 @@ const EXPLANATIONS: [Explanation; 34] = [
         example: "`timescale 1ns/1ns and then `timescale 1ns/1ps",
         advice: "write one timescale for the whole text, and all delays in its unit",
     },
+];
+
+static OF_WORDS: [Explanation; 3] = [
     Explanation {
         number: 201,
         meaning: "unexpected word: no text of the grammar goes on with this word after those before it, or the text ends too early",
@@ -71,6 +75,9 @@ const EXPLANATIONS: [Explanation; 34] = [
         example: "begin 64 times round a statement; a sum of 64 operands in an assignment",
         advice: "take begin and end away where one statement stands between them, write a long chain of else if as a case, or group a long sum by parentheses",
     },
+];
+
+static OF_DESIGNS: [Explanation; 10] = [
     Explanation {
         number: 301,
         meaning: "no module is the top, or an instance is of a module that isn't there",
@@ -131,6 +138,9 @@ const EXPLANATIONS: [Explanation; 34] = [
         example: "reg r; assign r = 1;, wire w; initial w = 1;, $display(\"%d\");",
         advice: "declare it as what it is used as; docs/LANGUAGE.md lists the formats under Printed lines",
     },
+];
+
+static OF_RUNS: [Explanation; 4] = [
     Explanation {
         number: 401,
         meaning: "ill-formed log",
@@ -155,6 +165,9 @@ const EXPLANATIONS: [Explanation; 34] = [
         example: "--steps 0, --depart 5, --workers 65, --seconds 1000001; of races --until 10",
         advice: "look at docs/LANGUAGE.md, Limits; write a time as 10us; a report that asks for more takes longer to check: allow as much, or explore anew with less",
     },
+];
+
+static OF_REPORTS: [Explanation; 6] = [
     Explanation {
         number: 501,
         meaning: "a report is ill formed",
@@ -191,6 +204,9 @@ const EXPLANATIONS: [Explanation; 34] = [
         example: "tb.v:10 tb.v:12 without a reason behind #",
         advice: "write FILE:LINE FILE:LINE # reason or variable PATTERN # reason; docs/CI.md has the form under Waivers",
     },
+];
+
+static OF_THE_MACHINE: [Explanation; 4] = [
     Explanation {
         number: 901,
         meaning: "a growth of memory was refused",
@@ -218,24 +234,43 @@ const EXPLANATIONS: [Explanation; 34] = [
 ];
 
 // The digits of a number: behind `E` or `e`, or alone.
-fn digits_of(shown: &str) -> &str {
-    if let Some(digits) = shown.strip_prefix("E") {
-        return digits;
+fn digits_of(shown: &[u8]) -> &[u8] {
+    match shown.split_first() {
+        Some((b'E', digits)) | Some((b'e', digits)) => digits,
+        _ => shown,
     }
-    match shown.strip_prefix("e") {
-        Some(digits) => digits,
-        None => shown,
+}
+
+// The explanations of the numbers of this hundred.
+fn explanations(hundred: u64) -> &'static [Explanation] {
+    match hundred {
+        1 => &OF_LETTERS,
+        2 => &OF_WORDS,
+        3 => &OF_DESIGNS,
+        4 => &OF_RUNS,
+        5 => &OF_REPORTS,
+        9 => &OF_THE_MACHINE,
+        _ => &[],
     }
+}
+
+// The explanation of a number, if there is one.
+fn row_of(number: u64) -> Option<&'static Explanation> {
+    for row in explanations(number / 100) {
+        if row.number == number {
+            return Some(row);
+        }
+    }
+    None
 }
 
 /// The explanation of a number as it is shown, `E` and three digits, if there is one; a small `e` or none will do.
 pub fn explanation_of(shown: &str) -> Option<&'static Explanation> {
-    let digits = digits_of(shown);
+    let digits = digits_of(shown.as_bytes());
     if digits.len() != 3 {
         return None;
     }
-    let number = digits.parse::<u16>().ok()?;
-    EXPLANATIONS.iter().find(|row| row.number == number)
+    row_of(number_in(digits)?)
 }
 
 /// Prints what a number means, an example, and what to do.
@@ -247,15 +282,17 @@ pub fn show(rt: &impl Print, row: &Explanation) -> io::Result<()> {
 
 /// Says on standard error what a number means, and what to do.
 pub fn show_advice(rt: &impl Eprint, number: u16) {
-    if let Some(row) = EXPLANATIONS.iter().find(|row| row.number == number) {
+    if let Some(row) = row_of(u64::from(number)) {
         let _ = eprintln!(rt; "{}\n    instead: {}", row.meaning, row.advice);
     }
 }
 
 /// Prints each number with what it means.
 pub fn show_all(rt: &impl Print) -> io::Result<()> {
-    for row in &EXPLANATIONS {
-        println!(rt; "E{}  {}", row.number, row.meaning)?;
+    for hundred in 1..10 {
+        for row in explanations(hundred) {
+            println!(rt; "E{}  {}", row.number, row.meaning)?;
+        }
     }
     Ok(())
 }

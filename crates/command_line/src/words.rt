@@ -1,9 +1,11 @@
 // The words of a command line, by the rules of docs/LANGUAGE.md, "Commands".
 
 use basis::NoMemory;
-use clap::{Arg, ArgAction, ArgMatches, Command, value_parser};
+use clap::builder::ValueParser;
+use clap::{Arg, ArgAction, ArgMatches, Command};
 use sched_core::setting::{Departures, Grain, Looked};
 use std::alloc::Global;
+use std::slice;
 
 const PAGES: &str =
     "Pages, in the folder docs: LANGUAGE.md (what is read, commands, limits), SCHEDULING.md (steps, choices, logs), RACES.md (races, reports), CI.md (statuses, waivers), FORMATS.md (dumps, lines, logs, reports, JSON, SARIF), FAULTS.md (numbers)
@@ -119,7 +121,7 @@ const PROGRESS: Row = Row {
 const MEMORY: &str =
     "The most megabytes that states take, as the program counts them, before such a search is cut";
 
-const REPLAY: [Row; 10] = [
+static REPLAY: [Row; 10] = [
     TOP,
     UNTIL,
     Row {
@@ -158,7 +160,7 @@ const REPLAY: [Row; 10] = [
     IN_WORDS,
 ];
 
-const EXPLORE: [Row; 13] = [
+static EXPLORE: [Row; 13] = [
     TOP,
     UNTIL,
     DEPART,
@@ -200,7 +202,7 @@ const EXPLORE: [Row; 13] = [
     IN_WORDS,
 ];
 
-const RACES: [Row; 17] = [
+static RACES: [Row; 17] = [
     Row {
         name: "top",
         takes: Takes::Words("N"),
@@ -280,7 +282,7 @@ const RACES: [Row; 17] = [
     PROGRESS,
 ];
 
-const MATCH: [Row; 11] = [
+static MATCH: [Row; 11] = [
     Row {
         name: "vcd",
         takes: Takes::Needed("DUMP"),
@@ -324,7 +326,7 @@ const MATCH: [Row; 11] = [
     PROGRESS,
 ];
 
-const CHECK: [Row; 4] = [
+static CHECK: [Row; 4] = [
     Row {
         name: "report",
         takes: Takes::Needed("REPORT"),
@@ -346,28 +348,55 @@ const CHECK: [Row; 4] = [
     IN_WORDS,
 ];
 
-// What the option takes.
-fn taking<'a>(arg: Arg<'a>, takes: Takes) -> Arg<'a> {
-    match takes {
-        Takes::Nothing => arg.action(ArgAction::SetTrue),
-        Takes::Word(name) => arg.action(ArgAction::Set).value_name(name),
-        Takes::Words(name) => arg.action(ArgAction::Append).value_name(name),
-        Takes::Needed(name) => arg.action(ArgAction::Set).value_name(name).required(true),
-        Takes::One(name, words) => arg
-            .action(ArgAction::Set)
-            .value_name(name)
-            .value_parser(words),
-        Takes::Number => arg
-            .action(ArgAction::Set)
-            .value_name("N")
-            .value_parser(value_parser!(u64)),
+impl Takes {
+    // What a use of the option does.
+    fn action(&self) -> ArgAction {
+        match self {
+            Takes::Nothing => ArgAction::SetTrue,
+            Takes::Words(_) => ArgAction::Append,
+            Takes::Word(_) | Takes::Needed(_) | Takes::One(_, _) | Takes::Number => ArgAction::Set,
+        }
+    }
+
+    // What help calls its value.
+    fn value_names(&'static self) -> &'static [&'static str] {
+        match self {
+            Takes::Nothing => &[],
+            Takes::Word(name) | Takes::Words(name) | Takes::Needed(name) | Takes::One(name, _) => {
+                slice::from_ref(name)
+            }
+            Takes::Number => &["N"],
+        }
+    }
+
+    // What its value has to be.
+    fn parser(&self) -> ValueParser<'static> {
+        match self {
+            Takes::Nothing => ValueParser::Bool,
+            Takes::Word(_) | Takes::Words(_) | Takes::Needed(_) => ValueParser::String,
+            Takes::One(_, words) => ValueParser::Names(*words),
+            Takes::Number => ValueParser::Unsigned(0, u64::MAX),
+        }
+    }
+
+    // Whether it has to be given.
+    fn is_needed(&self) -> bool {
+        matches!(self, Takes::Needed(_))
     }
 }
 
+// What the option takes.
+fn taking<'a>(arg: Arg<'a>, takes: &'static Takes) -> Arg<'a> {
+    arg.action(takes.action())
+        .value_names(takes.value_names())
+        .value_parser(takes.parser())
+        .required(takes.is_needed())
+}
+
 // The option.
-fn option<'a>(alloc: Global, row: &Row) -> Arg<'a> {
+fn option<'a>(alloc: Global, row: &'static Row) -> Arg<'a> {
     let arg = Arg::new(alloc, row.name).long(row.name).help(row.help);
-    let arg = taking(arg, row.takes);
+    let arg = taking(arg, &row.takes);
     match row.default {
         None => arg,
         Some(value) => arg.default_value(value),
@@ -386,7 +415,7 @@ fn command<'a>(
     alloc: Global,
     name: &'a str,
     about: &'a str,
-    options: &[Row],
+    options: &'static [Row],
 ) -> Result<Command<'a>, NoMemory> {
     let mut command = Command::new(alloc, name).about(about);
     for row in options {
@@ -395,16 +424,19 @@ fn command<'a>(
     Ok(command.arg(files(alloc))?)
 }
 
-fn explain_command<'a>(alloc: Global) -> Result<Command<'a>, NoMemory> {
-    let number = Arg::new(alloc, "NUMBER").help("The number, as E203; without it all are listed");
-    let command = Command::new(alloc, "explain")
-        .about("Says what the number of a fault means")
-        .arg(number)?;
-    Ok(command)
+// With such a command.
+fn with_command<'a>(
+    alloc: Global,
+    all: Command<'a>,
+    name: &'a str,
+    about: &'a str,
+    options: &'static [Row],
+) -> Result<Command<'a>, NoMemory> {
+    Ok(all.subcommand(command(alloc, name, about, options)?)?)
 }
 
-// The commands that read files.
-fn commands_of_files<'a>(alloc: Global, all: Command<'a>) -> Result<Command<'a>, NoMemory> {
+// With the commands that read files.
+fn with_files_commands<'a>(alloc: Global, all: Command<'a>) -> Result<Command<'a>, NoMemory> {
     let check = "Runs each log of a report; says ok, or the first item that isn't true";
     let explore =
         "Runs every schedule of at most so many departures as --depart says; reports each end and each race";
@@ -413,26 +445,36 @@ fn commands_of_files<'a>(alloc: Global, all: Command<'a>) -> Result<Command<'a>,
     let races = "Says which statements race, what differs then, and how to replay each order";
     let replay =
         "Writes the value change dump of the run under a log, or its printed lines, or its steps";
-    let all = all
-        .subcommand(command(alloc, "check", check, &CHECK)?)?
-        .subcommand(command(alloc, "explore", explore, &EXPLORE)?)?
-        .subcommand(command(alloc, "match", matching, &MATCH)?)?
-        .subcommand(command(alloc, "races", races, &RACES)?)?
-        .subcommand(command(alloc, "replay", replay, &REPLAY)?)?;
-    Ok(all)
+    let all = with_command(alloc, all, "check", check, &CHECK)?;
+    let all = with_command(alloc, all, "explore", explore, &EXPLORE)?;
+    let all = with_command(alloc, all, "match", matching, &MATCH)?;
+    let all = with_command(alloc, all, "races", races, &RACES)?;
+    with_command(alloc, all, "replay", replay, &REPLAY)
+}
+
+fn explain_command<'a>(alloc: Global) -> Result<Command<'a>, NoMemory> {
+    let number = Arg::new(alloc, "NUMBER").help("The number, as E203; without it all are listed");
+    let command = Command::new(alloc, "explain").about("Says what the number of a fault means");
+    Ok(command.arg(number)?)
+}
+
+// With the command that says what the number of a fault means.
+fn with_explain<'a>(alloc: Global, all: Command<'a>) -> Result<Command<'a>, NoMemory> {
+    Ok(all.subcommand(explain_command(alloc)?)?)
+}
+
+// What help says of all commands, before them and behind them.
+fn described<'a>(all: Command<'a>) -> Command<'a> {
+    let about =
+        "Runs Verilog in the orders that the standard leaves open, and finds races. Without words: replays standard input.";
+    all.about(about).version(VERSION).after_help(PAGES)
 }
 
 /// The commands of the program.
 pub fn commands<'a>(alloc: Global) -> Result<Command<'a>, NoMemory> {
-    let all = Command::new(alloc, "vrace")
-        .bin_name("vrace")?
-        .about(
-            "Runs Verilog in the orders that the standard leaves open, and finds races. Without words: replays standard input.",
-        )
-        .version(VERSION)
-        .after_help(PAGES)
-        .subcommand_required(true);
-    Ok(commands_of_files(alloc, all)?.subcommand(explain_command(alloc)?)?)
+    let all = Command::new(alloc, "vrace").bin_name("vrace")?;
+    let all = with_files_commands(alloc, described(all).subcommand_required(true))?;
+    with_explain(alloc, all)
 }
 
 // Whether a word reads as an option, as all do that begin with a minus but `-` itself.
