@@ -65,13 +65,13 @@ fn put_construct(
     row: &Row,
 ) -> Result<(), NoMemory> {
     put_place(text, files, found.place)?;
-    put_all(text, &[b"not in the profile: ", row.what.as_bytes()])?;
+    put_all(text, &[b"not in the profile: ", row.what])?;
     if row.names_word {
         put_all(text, &[b" "])?;
         put_quoted(text, found.word)?;
     }
     put_more(text, found.more)?;
-    put_rest(text, files, found.place, row.instead.as_bytes())
+    put_rest(text, files, found.place, row.instead)
 }
 
 /// The word as any terminal may be shown it.
@@ -112,9 +112,9 @@ fn put_rule(
         put_word(text, found.word)?;
         put_all(text, &[b" "])?;
     }
-    put_all(text, &[rule.what.as_bytes()])?;
+    put_all(text, &[rule.what])?;
     put_more(text, found.more)?;
-    put_rest(text, files, found.place, rule.instead.as_bytes())
+    put_rest(text, files, found.place, rule.instead)
 }
 
 /// The message of what was found.

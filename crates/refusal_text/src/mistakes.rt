@@ -49,14 +49,15 @@ struct Row {
     rule: Rule,
 }
 
-static ROWS: [Row; 36] = [
+// Told of letters and directives.
+static OF_LETTERS: [Row; 11] = [
     Row {
         mistake: Mistake::Escape,
         rule: Rule {
             number: 102,
             names_word: true,
-            what: "is no escape of a string",
-            instead: "write `\\\\` for a backslash itself; the escapes are `\\n`, `\\t`, `\\\\`, `\\\"` and octal digits, one to \
+            what: b"is no escape of a string",
+            instead: b"write `\\\\` for a backslash itself; the escapes are `\\n`, `\\t`, `\\\\`, `\\\"` and octal digits, one to \
                 three, up to `\\377`",
         },
     },
@@ -65,8 +66,8 @@ static ROWS: [Row; 36] = [
         rule: Rule {
             number: 110,
             names_word: true,
-            what: "isn't the first thing on its line",
-            instead: "begin a line with it: no comment may stand before it, either",
+            what: b"isn't the first thing on its line",
+            instead: b"begin a line with it: no comment may stand before it, either",
         },
     },
     Row {
@@ -74,8 +75,8 @@ static ROWS: [Row; 36] = [
         rule: Rule {
             number: 110,
             names_word: true,
-            what: "has no name behind it",
-            instead: "write the name on the same line",
+            what: b"has no name behind it",
+            instead: b"write the name on the same line",
         },
     },
     Row {
@@ -83,8 +84,8 @@ static ROWS: [Row; 36] = [
         rule: Rule {
             number: 110,
             names_word: true,
-            what: "stands in no open conditional, or behind its ``else`",
-            instead: "take it away, or begin the conditional with `ifdef; a conditional has one `else",
+            what: b"stands in no open conditional, or behind its ``else`",
+            instead: b"take it away, or begin the conditional with `ifdef; a conditional has one `else",
         },
     },
     Row {
@@ -92,8 +93,8 @@ static ROWS: [Row; 36] = [
         rule: Rule {
             number: 110,
             names_word: true,
-            what: "ends no ``begin_keywords`",
-            instead: "take it away: it changes nothing",
+            what: b"ends no ``begin_keywords`",
+            instead: b"take it away: it changes nothing",
         },
     },
     Row {
@@ -101,8 +102,8 @@ static ROWS: [Row; 36] = [
         rule: Rule {
             number: 110,
             names_word: true,
-            what: "names no version of Verilog",
-            instead: "write \"1364-2005\", \"1364-2001\", \"1364-2001-noconfig\" or \"1364-1995\"; or take it away with its \
+            what: b"names no version of Verilog",
+            instead: b"write \"1364-2005\", \"1364-2001\", \"1364-2001-noconfig\" or \"1364-1995\"; or take it away with its \
                 `end_keywords: it changes nothing",
         },
     },
@@ -111,8 +112,8 @@ static ROWS: [Row; 36] = [
         rule: Rule {
             number: 110,
             names_word: true,
-            what: "needs a number, a file in quotes, and a level of 0, 1 or 2 behind it",
-            instead: "write all three, as `line 12 \"tb.v\" 0; or take it away: it changes nothing",
+            what: b"needs a number, a file in quotes, and a level of 0, 1 or 2 behind it",
+            instead: b"write all three, as `line 12 \"tb.v\" 0; or take it away: it changes nothing",
         },
     },
     Row {
@@ -120,8 +121,8 @@ static ROWS: [Row; 36] = [
         rule: Rule {
             number: 110,
             names_word: true,
-            what: "needs `pull0` or `pull1` behind it",
-            instead: "take it away: an input that isn't connected is z here all the same",
+            what: b"needs `pull0` or `pull1` behind it",
+            instead: b"take it away: an input that isn't connected is z here all the same",
         },
     },
     Row {
@@ -129,8 +130,8 @@ static ROWS: [Row; 36] = [
         rule: Rule {
             number: 110,
             names_word: true,
-            what: "has another form than `1ns/100ps`",
-            instead: "write 1, 10 or 100 and one of s, ms, us, ns, ps and fs, before the slash and behind it",
+            what: b"has another form than `1ns/100ps`",
+            instead: b"write 1, 10 or 100 and one of s, ms, us, ns, ps and fs, before the slash and behind it",
         },
     },
     Row {
@@ -138,8 +139,8 @@ static ROWS: [Row; 36] = [
         rule: Rule {
             number: 110,
             names_word: true,
-            what: "has no precision",
-            instead: "write it behind the unit and a slash: `timescale 1ns/1ns",
+            what: b"has no precision",
+            instead: b"write it behind the unit and a slash: `timescale 1ns/1ns",
         },
     },
     Row {
@@ -147,17 +148,21 @@ static ROWS: [Row; 36] = [
         rule: Rule {
             number: 110,
             names_word: true,
-            what: "has a precision that is longer than its unit",
-            instead: "write the unit first, and behind it a precision that is as long or shorter: `timescale 1ns/1ps",
+            what: b"has a precision that is longer than its unit",
+            instead: b"write the unit first, and behind it a precision that is as long or shorter: `timescale 1ns/1ps",
         },
     },
+];
+
+// Told of words.
+static OF_WORDS: [Row; 10] = [
     Row {
         mistake: Mistake::LongName,
         rule: Rule {
             number: 201,
             names_word: true,
-            what: "is one name up to the next blank",
-            instead: "write a blank behind an escaped name",
+            what: b"is one name up to the next blank",
+            instead: b"write a blank behind an escaped name",
         },
     },
     Row {
@@ -165,8 +170,8 @@ static ROWS: [Row; 36] = [
         rule: Rule {
             number: 201,
             names_word: false,
-            what: "an input that is a `reg`",
-            instead: "leave the `reg` away: an input is a net; what the module itself writes is a variable of another name",
+            what: b"an input that is a `reg`",
+            instead: b"leave the `reg` away: an input is a net; what the module itself writes is a variable of another name",
         },
     },
     Row {
@@ -174,8 +179,8 @@ static ROWS: [Row; 36] = [
         rule: Rule {
             number: 201,
             names_word: false,
-            what: "a declaration with two types",
-            instead: "write one of them: `output reg q`, or `output integer q`",
+            what: b"a declaration with two types",
+            instead: b"write one of them: `output reg q`, or `output integer q`",
         },
     },
     Row {
@@ -183,8 +188,8 @@ static ROWS: [Row; 36] = [
         rule: Rule {
             number: 201,
             names_word: false,
-            what: "a range or a sign behind `integer` or `time`",
-            instead: "leave it away: an `integer` has 32 bits and a sign, a `time` 64 bits; a vector of another size is a `reg`",
+            what: b"a range or a sign behind `integer` or `time`",
+            instead: b"leave it away: an `integer` has 32 bits and a sign, a `time` 64 bits; a vector of another size is a `reg`",
         },
     },
     Row {
@@ -192,8 +197,8 @@ static ROWS: [Row; 36] = [
         rule: Rule {
             number: 201,
             names_word: false,
-            what: "a port without a direction",
-            instead: "write `input` or `output` before its type",
+            what: b"a port without a direction",
+            instead: b"write `input` or `output` before its type",
         },
     },
     Row {
@@ -201,8 +206,8 @@ static ROWS: [Row; 36] = [
         rule: Rule {
             number: 201,
             names_word: false,
-            what: "a parameter without the word `parameter`",
-            instead: "write the word before it: `#(parameter integer N = 3)`",
+            what: b"a parameter without the word `parameter`",
+            instead: b"write the word before it: `#(parameter integer N = 3)`",
         },
     },
     Row {
@@ -210,8 +215,8 @@ static ROWS: [Row; 36] = [
         rule: Rule {
             number: 201,
             names_word: false,
-            what: "a `localparam` in the list of parameters",
-            instead: "declare it behind the head of the module",
+            what: b"a `localparam` in the list of parameters",
+            instead: b"declare it behind the head of the module",
         },
     },
     Row {
@@ -219,8 +224,8 @@ static ROWS: [Row; 36] = [
         rule: Rule {
             number: 201,
             names_word: false,
-            what: "a semicolon in a list",
-            instead: "write a comma between ports or parameters, and a parenthesis behind the last one",
+            what: b"a semicolon in a list",
+            instead: b"write a comma between ports or parameters, and a parenthesis behind the last one",
         },
     },
     Row {
@@ -228,8 +233,8 @@ static ROWS: [Row; 36] = [
         rule: Rule {
             number: 201,
             names_word: false,
-            what: "a comma behind the last one of a list",
-            instead: "take the comma away",
+            what: b"a comma behind the last one of a list",
+            instead: b"take the comma away",
         },
     },
     Row {
@@ -237,17 +242,21 @@ static ROWS: [Row; 36] = [
         rule: Rule {
             number: 201,
             names_word: false,
-            what: "arguments of a print task without parentheses",
-            instead: "write parentheses round them: `$display(\"x\");`",
+            what: b"arguments of a print task without parentheses",
+            instead: b"write parentheses round them: `$display(\"x\");`",
         },
     },
+];
+
+// Told of designs.
+static OF_DESIGNS: [Row; 15] = [
     Row {
         mistake: Mistake::DeclaredPort,
         rule: Rule {
             number: 302,
             names_word: true,
-            what: "is a port that is declared already",
-            instead: "take one of the declarations away; of a port that is a variable one says all: `output reg y`",
+            what: b"is a port that is declared already",
+            instead: b"take one of the declarations away; of a port that is a variable one says all: `output reg y`",
         },
     },
     Row {
@@ -255,8 +264,8 @@ static ROWS: [Row; 36] = [
         rule: Rule {
             number: 302,
             names_word: true,
-            what: "is a port that is declared again as an `integer` or a `time`",
-            instead: "write `output integer y`, or `output time y`, in place of both declarations",
+            what: b"is a port that is declared again as an `integer` or a `time`",
+            instead: b"write `output integer y`, or `output time y`, in place of both declarations",
         },
     },
     Row {
@@ -264,8 +273,8 @@ static ROWS: [Row; 36] = [
         rule: Rule {
             number: 302,
             names_word: true,
-            what: "stands twice in the list of ports",
-            instead: "give each port a name of its own; two inputs are joined by what the instance connects to both",
+            what: b"stands twice in the list of ports",
+            instead: b"give each port a name of its own; two inputs are joined by what the instance connects to both",
         },
     },
     Row {
@@ -273,8 +282,8 @@ static ROWS: [Row; 36] = [
         rule: Rule {
             number: 303,
             names_word: true,
-            what: "is a parameter that is declared later",
-            instead: "declare it before the constant that uses it: above that item, or in the head, `#(parameter W = 4)`",
+            what: b"is a parameter that is declared later",
+            instead: b"declare it before the constant that uses it: above that item, or in the head, `#(parameter W = 4)`",
         },
     },
     Row {
@@ -282,8 +291,8 @@ static ROWS: [Row; 36] = [
         rule: Rule {
             number: 303,
             names_word: true,
-            what: "is a port without a direction",
-            instead: "write an item for it, `input b;` or `output b;`, or take it out of the list",
+            what: b"is a port without a direction",
+            instead: b"write an item for it, `input b;` or `output b;`, or take it out of the list",
         },
     },
     Row {
@@ -291,8 +300,8 @@ static ROWS: [Row; 36] = [
         rule: Rule {
             number: 303,
             names_word: true,
-            what: "isn't in the list of ports",
-            instead: "put it into the list behind the name of the module; what is no port is declared as `wire` or `reg`",
+            what: b"isn't in the list of ports",
+            instead: b"put it into the list behind the name of the module; what is no port is declared as `wire` or `reg`",
         },
     },
     Row {
@@ -300,8 +309,8 @@ static ROWS: [Row; 36] = [
         rule: Rule {
             number: 305,
             names_word: true,
-            what: "is no port or parameter of the module, or stands twice",
-            instead: "write the names that the head of the module has, each at most once; a `localparam` can't be set from outside",
+            what: b"is no port or parameter of the module, or stands twice",
+            instead: b"write the names that the head of the module has, each at most once; a `localparam` can't be set from outside",
         },
     },
     Row {
@@ -309,8 +318,8 @@ static ROWS: [Row; 36] = [
         rule: Rule {
             number: 305,
             names_word: true,
-            what: "is connected to more than it has ports, or has an output on an expression",
-            instead: "count the ports; an output is connected to a net, a bit or a part of one, or a concatenation of these, \
+            what: b"is connected to more than it has ports, or has an output on an expression",
+            instead: b"count the ports; an output is connected to a net, a bit or a part of one, or a concatenation of these, \
                 without parentheses round it",
         },
     },
@@ -319,8 +328,8 @@ static ROWS: [Row; 36] = [
         rule: Rule {
             number: 306,
             names_word: true,
-            what: "has a connection of more than 64 bits, or with a bound out of its limits",
-            instead: "write bounds of a part in the direction of the declaration, from 0 to 65,535, and at most 64 bits",
+            what: b"has a connection of more than 64 bits, or with a bound out of its limits",
+            instead: b"write bounds of a part in the direction of the declaration, from 0 to 65,535, and at most 64 bits",
         },
     },
     Row {
@@ -328,8 +337,8 @@ static ROWS: [Row; 36] = [
         rule: Rule {
             number: 306,
             names_word: true,
-            what: "is declared with two ranges that differ",
-            instead: "write the same range both times: `output [3:0] y; reg [3:0] y;`",
+            what: b"is declared with two ranges that differ",
+            instead: b"write the same range both times: `output [3:0] y; reg [3:0] y;`",
         },
     },
     Row {
@@ -337,8 +346,8 @@ static ROWS: [Row; 36] = [
         rule: Rule {
             number: 310,
             names_word: true,
-            what: "has an output on a variable, or a connection with a bit of what has no range",
-            instead: "connect an output to a `wire`; a variable can take its value by `always @* r = w;`",
+            what: b"has an output on a variable, or a connection with a bit of what has no range",
+            instead: b"connect an output to a `wire`; a variable can take its value by `always @* r = w;`",
         },
     },
     Row {
@@ -346,8 +355,8 @@ static ROWS: [Row; 36] = [
         rule: Rule {
             number: 310,
             names_word: true,
-            what: "is given a string, which `%s` alone shows",
-            instead: "write `%s`, or the text itself in place of the format; a letter as a number is `8'h41`. An argument that \
+            what: b"is given a string, which `%s` alone shows",
+            instead: b"write `%s`, or the text itself in place of the format; a letter as a number is `8'h41`. An argument that \
                 is left out counts as a string, too",
         },
     },
@@ -356,8 +365,8 @@ static ROWS: [Row; 36] = [
         rule: Rule {
             number: 310,
             names_word: true,
-            what: "is an input, and no input is a variable",
-            instead: "leave the `reg` away; what the module itself writes is a variable of another name",
+            what: b"is an input, and no input is a variable",
+            instead: b"leave the `reg` away; what the module itself writes is a variable of another name",
         },
     },
     Row {
@@ -365,8 +374,8 @@ static ROWS: [Row; 36] = [
         rule: Rule {
             number: 310,
             names_word: true,
-            what: "has no argument left",
-            instead: "write an argument for each format behind its string, in their order; a percent sign is `%%`",
+            what: b"has no argument left",
+            instead: b"write an argument for each format behind its string, in their order; a percent sign is `%%`",
         },
     },
     Row {
@@ -374,18 +383,29 @@ static ROWS: [Row; 36] = [
         rule: Rule {
             number: 310,
             names_word: true,
-            what: "is given a value, and is no output that is a variable",
-            instead: "write `output reg y = 1`, `output integer` or `output time`; a net is driven by an `assign`, and an input \
+            what: b"is given a value, and is no output that is a variable",
+            instead: b"write `output reg y = 1`, `output integer` or `output time`; a net is driven by an `assign`, and an input \
                 from outside",
         },
     },
 ];
 
-/// What is told of the mistake.
-pub(crate) fn rule_for(mistake: Mistake) -> Option<&'static Rule> {
-    for row in &ROWS {
+// What is told of the mistake, if it is one of these.
+fn rule_among(rows: &'static [Row], mistake: Mistake) -> Option<&'static Rule> {
+    for row in rows {
         if row.mistake == mistake {
             return Some(&row.rule);
+        }
+    }
+    None
+}
+
+/// What is told of the mistake.
+pub(crate) fn rule_for(mistake: Mistake) -> Option<&'static Rule> {
+    let tables: [&'static [Row]; 3] = [&OF_LETTERS, &OF_WORDS, &OF_DESIGNS];
+    for rows in &tables {
+        if let Some(rule) = rule_among(*rows, mistake) {
+            return Some(rule);
         }
     }
     None

@@ -58,7 +58,7 @@ const TYPE_NAMES: [Keywords; 3] = [
 ];
 
 // What tells something wherever it stands, by the words round it.
-const PHRASES: [Phrase; 4] = [
+static PHRASES: [Phrase; 4] = [
     Phrase {
         words: &["typedef"],
         before: Beside::Any,
@@ -116,7 +116,7 @@ const UNITS: [Keywords; 5] = [
 ];
 
 // What begins an item of a module.
-const ITEMS: [Phrase; 4] = [
+static ITEMS: [Phrase; 4] = [
     Phrase {
         words: &["default"],
         before: Beside::Any,
