@@ -14,7 +14,7 @@ use Rattle.vmodel.specs.Step.{next}
 use Rattle.vmodel.specs.Run.{Setting, rules_of, state_after}
 use Rattle.vmodel.specs.RunProgress.{width_is, after_is}
 use Rattle.vmachine.specs.Inner.{IsAt}
-use Rattle.vmodel.specs.declared.effect.Effect.{Effect}
+use Rattle.vmodel.specs.Effects.{Effect}
 use Rattle.cause.specs.Checkpoints.{Keeps, IsCheckpointOf}
 use Rattle.cause.proofs.CheckpointLemmas.{keeps_none, keeps_on, keeps_then, rises, seen_early}
 use Rattle.cause.specs.declared.visit.Visit.{Visit}

@@ -5,7 +5,7 @@ use Rattle.sched_core.specs.Rules.{IsRun, choice_at}
 use Rattle.vdesign.specs.Design.{Design}
 use Rattle.vmodel.specs.declared.choice.Choice.{Choice}
 use Rattle.vmodel.specs.declared.choice.Choice.TheVariants.{Run, Update, Advance}
-use Rattle.vmodel.specs.declared.effect.Effect.{Effect}
+use Rattle.vmodel.specs.Effects.{Effect}
 use Rattle.vmodel.specs.declared.effect.Post.{Post}
 use Rattle.vmodel.specs.State.{State}
 use Rattle.vmodel.specs.Choices.{choices}

@@ -1,7 +1,7 @@
 // The visits of a slot, and which `<=` posted an update.
 
 ghost use Rattle.std.specs.Prelude.{◌≡◌, ◌∷◌, ◌++◌, ◌+◌, ◌≤◌, ◌<◌, [], ℕ, nat_lt, suc, map, slice_get, is_some, length, option_map, if◌then◌else◌, take, IfOk, IfSome, IfNone, OnOk, Some, None};
-ghost use Rattle.vmodel.specs.declared.effect.Effect.{Effect};
+ghost use Rattle.vmodel.specs.Effects.{Effect};
 ghost use Rattle.vmodel.specs.State.{State};
 ghost use Rattle.cause.specs.Numbered.{AreNumbered};
 ghost use Rattle.cause.specs.Checkpoints as checkpoints;
@@ -16,7 +16,7 @@ use vdesign::design::Design;
 use vmodel::State;
 use vmodel::choice::Choice;
 use vmodel::effect::{Effect, Post};
-use vmodel::part::{Kept, Part, Parts};
+use vmodel::part::{Kept, Part};
 
 /// Who makes a visit.
 #[derive(Clone, Copy, PartialEq, Eq)]
@@ -208,11 +208,11 @@ fn put_parts(things: &mut Vec<Thing>, parts: &[Part]) -> Result<(), NoMemory>
 }
 
 // What an update writes (11.4).
-fn footprint_of_update(alloc: Global, wrote: &Parts) -> Result<Footprint, NoMemory>
-    ensures { IfOk result (λ found. found ≡ spec.footprint_of_update wrote.now) }
+fn footprint_of_update(alloc: Global, effect: &Effect) -> Result<Footprint, NoMemory>
+    ensures { IfOk result (λ found. found ≡ spec.footprint_of_update effect.now.wrote) }
 {
     let mut writes = Vec::new(alloc);
-    match wrote.kept() {
+    match effect.wrote() {
         Kept::One(part) => put_parts(&mut writes, &[part])?,
         Kept::Many(parts) => put_parts(&mut writes, parts)?,
     }
@@ -233,8 +233,8 @@ fn footprint_by(
     ensures { IfOk result (λ found. found ≡ spec.footprint_by design.now choice place effect.now) }
 {
     match choice {
-        Choice::Run(_) => footprint_at(alloc, &design.actions, place, effect.held.is_some()),
-        Choice::Update => footprint_of_update(alloc, &effect.wrote),
+        Choice::Run(_) => footprint_at(alloc, &design.actions, place, effect.held().is_some()),
+        Choice::Update => footprint_of_update(alloc, effect),
         Choice::Advance => Ok(Footprint::nothing(alloc)),
     }
 }
@@ -276,9 +276,10 @@ fn put_posted(
     list: &mut Vec<Posted>,
     time: u64,
     place: Option<usize>,
-    posted: &Option<Post>,
+    posted: Option<&Post>,
 ) -> Result<(), NoMemory>
-    ensures { OnOk result (list.new.items ≡ list.old.items ++ spec.posted_by time place posted.now) }
+    ensures { OnOk result (list.new.items ≡ list.old.items
+        ++ spec.posted_by time place (option_map (λ post. post.now) posted.entry)) }
 {
     let Some(place) = place else {
         return Ok(());
@@ -431,7 +432,7 @@ impl Seen {
             OnOk result (self.new ≡ spec.seen_by design.now from step state choice effect.now self.old) }
         ensures few { OnOk result (self.new.updates ≤ step + 1) }
     {
-        put_posted(&mut self.posted, time, acting, &effect.posted)?;
+        put_posted(&mut self.posted, time, acting, effect.posted())?;
         self.updates = updates_after(choice, self.updates);
         if step >= from {
             put_visit(alloc, &mut self.visits, design, step, choice, place, effect)?;

@@ -5,7 +5,7 @@ use Rattle.vdesign.specs.Design.{Design}
 use Rattle.vdesign.specs.declared.action.Action.{Action}
 use Rattle.sched_core.specs.declared.end.Cause.{Cause}
 use Rattle.vmodel.specs.declared.history.Item.{Item}
-use Rattle.vmodel.specs.declared.effect.Effect.{Effect}
+use Rattle.vmodel.specs.Effects.{Effect, no_effect}
 use Rattle.vmodel.specs.declared.effect.Shown.{Shown}
 use Rattle.vmodel.specs.declared.effect.Shown.TheVariants.{Commands, Prints, Watches}
 use Rattle.vmodel.specs.declared.process.Frame.{Frame}
@@ -13,7 +13,7 @@ use Rattle.vmodel.specs.declared.choice.Choice.{Choice}
 use Rattle.vmodel.specs.declared.choice.Choice.TheVariants.{Run, Update, Advance}
 use Rattle.vmodel.specs.State.{State}
 use Rattle.vmodel.specs.InnerStep.{transition_to}
-use Rattle.vmodel.specs.Step.{Transition, environment_of, no_effect, execute_at, held_of, with_step, place_of, with_moves_by, with_woken, monitors_by, complete, first_of, with_update, with_advance, action_transition, continuation_transition, continuation_of, transition_of, line_item, shown_items, slot_end_by, slot_end_of, strobe_items, before_end, items_of}
+use Rattle.vmodel.specs.Step.{Transition, environment_of, execute_at, held_of, with_step, place_of, with_moves_by, with_woken, monitors_by, complete, first_of, with_update, with_advance, action_transition, continuation_transition, continuation_of, transition_of, line_item, shown_items, slot_end_by, slot_end_of, strobe_items, before_end, items_of}
 
 -- a state with this held back and printed, and a step whose state has that
 abbrev pub with_seen : Option (List ℕ) → Option (List (List ℕ)) → State → State

@@ -126,14 +126,14 @@ impl<'a> DetailedRun<'a> {
             return Ok(reads);
         };
         if let Some(action) = self.machine.design().actions.get(place) {
-            reads.put_action(action, effect.held.is_some())?;
+            reads.put_action(action, effect.held().is_some())?;
         }
         Ok(reads)
     }
 
     // What a step posted by the action at this place.
     fn post(&mut self, time: u64, action: Option<usize>, effect: &Effect) -> Result<(), NoMemory> {
-        match (action, &effect.posted) {
+        match (action, effect.posted()) {
             (Some(place), Some(post)) => self.posts.post(time, post.after, place),
             _ => Ok(()),
         }

@@ -14,7 +14,7 @@ use Rattle.vmodel.specs.declared.choice.Choice.{Choice}
 use Rattle.vmodel.specs.declared.choice.Choice.TheVariants.{Run, Update, Advance}
 use Rattle.vmodel.specs.declared.effect.Disposition.{Disposition}
 use Rattle.vmodel.specs.declared.effect.Disposition.TheVariants.{Runnable, Delayed, Waiting}
-use Rattle.vmodel.specs.declared.effect.Effect.{Effect}
+use Rattle.vmodel.specs.Effects.{Effect}
 use Rattle.vmodel.specs.declared.effect.Post.{Post}
 use Rattle.vmodel.specs.declared.effect.Shown.{Shown}
 use Rattle.vmodel.specs.declared.effect.Shown.TheVariants.{Commands, Prints, Watches}

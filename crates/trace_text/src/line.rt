@@ -298,12 +298,12 @@ fn put_written(
     text: &mut Vec<u8>,
     design: &Design,
     values: &[Vec4],
-    wrote: &Parts,
+    effect: &Effect,
 ) -> Result<(), NoMemory>
     ensures { OnOk result (text.new.items
-        ≡ text.old.items ++ spec.writes_text design.now values.now wrote.now) }
+        ≡ text.old.items ++ spec.writes_text design.now values.now effect.now.wrote) }
 {
-    match wrote.kept() {
+    match effect.wrote() {
         Kept::One(part) => put_writes(text, design, values, &[part]),
         Kept::Many(parts) => put_writes(text, design, values, parts),
     }
@@ -330,10 +330,10 @@ fn put_posted(
     text: &mut Vec<u8>,
     design: &Design,
     values: &[Vec4],
-    posted: &Option<Post>,
+    posted: Option<&Post>,
 ) -> Result<(), NoMemory>
     ensures { OnOk result (text.new.items
-        ≡ text.old.items ++ spec.posted_text design.now values.now posted.now) }
+        ≡ text.old.items ++ spec.posted_text design.now values.now (option_map (λ post. post.now) posted.entry)) }
 {
     match posted {
         None => Ok(()),
@@ -451,13 +451,13 @@ fn put_effect(
     ensures { OnOk result (text.new.items
         ≡ text.old.items ++ spec.effect_text design.now values.now effect.now) }
 {
-    put_written(text, design, values, &effect.wrote)?;
-    put_posted(text, design, values, &effect.posted)?;
-    put_triggered(text, effect.triggered)?;
-    put_disposition(text, effect.disposition)?;
-    put_shown(text, effect.shown)?;
-    put_strobed(text, effect.strobed)?;
-    put_cause(text, effect.cause)
+    put_written(text, design, values, effect)?;
+    put_posted(text, design, values, effect.posted())?;
+    put_triggered(text, effect.triggered())?;
+    put_disposition(text, effect.disposition())?;
+    put_shown(text, effect.shown())?;
+    put_strobed(text, effect.strobed())?;
+    put_cause(text, effect.cause())
 }
 
 // The same of an advance: the time from here on.

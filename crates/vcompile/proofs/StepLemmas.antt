@@ -21,7 +21,8 @@ use Rattle.vvalue.specs.Cases.{matches, case_size_and_sign, places_at, places_of
 use Rattle.vmodel.specs.declared.process.Frame.{Frame}
 use Rattle.vmodel.specs.declared.process.Frame.TheVariants as frame
 use Rattle.vmodel.specs.declared.effect.Disposition.TheVariants.{Waiting}
-use Rattle.vmodel.specs.Step.{StepResult, no_effect, frames, turns_left, place_of, execute, execute_turn, resume, execute_at}
+use Rattle.vmodel.specs.Step.{StepResult, frames, turns_left, place_of, execute, execute_turn, resume, execute_at}
+use Rattle.vmodel.specs.Effects.{no_effect}
 use Rattle.vmodel.specs.InnerStep.{wait_result}
 use Rattle.vcompile.specs.Links.{place_number, first_point, branch_bodies, links_of, begins_by, is_repeat, counter_by, next_counter, counters_from}
 use Rattle.vcompile.specs.Listening.{resumes_at, events_in, lists_of}

@@ -9,8 +9,8 @@ use Rattle.vvalue.specs.Cases.{places_of_case, turns_of}
 use Rattle.vmodel.specs.declared.process.Frame.{Frame}
 use Rattle.vmodel.specs.declared.process.Frame.TheVariants.{Executing, Repeating, Writing}
 use Rattle.vmodel.specs.declared.effect.Disposition.TheVariants.{Delayed, Waiting}
-use Rattle.vmodel.specs.declared.effect.Effect.{Effect}
-use Rattle.vmodel.specs.Step.{StepResult, no_effect, frames, turns_left, place_of, execute_at}
+use Rattle.vmodel.specs.Effects.{Effect, no_effect}
+use Rattle.vmodel.specs.Step.{StepResult, frames, turns_left, place_of, execute_at}
 use Rattle.vmodel.specs.InnerStep.{wait_result, while_result}
 use Rattle.vcompile.specs.Laws.{turns_behind, HasCounters}
 

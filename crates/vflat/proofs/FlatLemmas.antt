@@ -13,16 +13,18 @@ use Rattle.vvalue.specs.Value.{Environment}
 use Rattle.sched_core.specs.declared.end.Cause.{Cause}
 use Rattle.vmodel.specs.declared.choice.Choice.{Choice}
 use Rattle.vmodel.specs.declared.choice.Choice.TheVariants.{Run, Update, Advance}
-use Rattle.vmodel.specs.declared.effect.Effect.{Effect}
+use Rattle.vmodel.specs.Effects.{Effect}
 use Rattle.vmodel.specs.declared.part.Part.{Part}
 use Rattle.vmodel.specs.declared.process.Frame.{Frame}
+use Rattle.vmodel.specs.Holding.{held_after}
 use Rattle.vmodel.specs.Inner.{variable_of}
 use Rattle.vmodel.specs.InnerStep.{step_result, transition_to}
 use Rattle.vmodel.specs.Parts.{value_in, with_parts}
 use Rattle.vmodel.specs.Printed.{printed_after}
 use Rattle.vmodel.specs.State.{State}
 use Rattle.vmodel.specs.Step.{StepResult, place_of, execute_at, complete, no_transition, environment_of, with_moves_by, with_advance, with_lines_after, items_of}
-use Rattle.vcompile.specs.Laws.{turns_behind}
+use Rattle.vmodel.specs.Waking.{hears}
+use Rattle.vcompile.specs.Laws.{turns_behind, with_edge}
 use Rattle.vflat.specs.declared.flat_step.News.{News}
 use Rattle.vflat.specs.declared.flat_step.News.TheVariants.{Changed, Triggered}
 use Rattle.vflat.specs.Flat.{Flat, FlatTransition, point_in, held_by, wakes_listener, with_resumed, frame_at, with_listeners, terms_told, told_of_event, flat_woken, comes_to, flat_placed, step_alone, flat_after, flat_updated, flat_action, flat_frame, flat_transition_of, flat_viewed, rest_of, with_rest}
@@ -42,6 +44,12 @@ wakes_not code news l f e = ap (λ b. with_woken (if b then with_resumed code f.
 pub heard_next : (code : Code) (news : News) (l : Listener) (ls : List Listener) (f : Flat) →
     heard_by code news (l ∷ ls) f ≡ heard_by code news ls (heard_by code news (l ∷ []) f)
 heard_next code news l ls f = refl
+
+pub told_nobody : (code : Code) (parts : List Part) (triggered : Option ℕ) (variable : ℕ) (f : Flat) → listeners_at code.by_variable variable ≡ [] →
+    f ≡ told_of code parts triggered (Change Any variable ∷ []) f
+told_nobody code parts triggered variable f none =
+    ap (λ ls. with_woken (with_listeners code f.turns
+    (λ edge. hears f.rest.values (with_parts parts f.rest.values) triggered (with_edge (Change Any variable) edge)) ls (woken_of f)) f) (sym none)
 
 pub told_change : (code : Code) (parts : List Part) (triggered : Option ℕ) (variable : ℕ) (f : Flat) →
     heard_by code (Changed (value_in f.rest.values variable) (value_in (with_parts parts f.rest.values) variable)) (listeners_at code.by_variable variable) f
@@ -112,6 +120,37 @@ step_prints design code (Run p) f = frame_prints design code p (frame_at code f.
 step_prints design code Update f =
     moves_print_by (flat_updated code f).rest.cause (flat_updated code f).rest
 step_prints design code Advance f = moves_print_by f.rest.cause (record f.rest { queue = with_advance f.rest.queue.future f.rest.queue })
+
+moves_hold_by : (cause : Option Cause) (s : State) → (with_moves_by cause s).held_back ≡ s.held_back
+moves_hold_by None s = refl
+moves_hold_by (Some cause) s = refl
+
+action_holds : (design : Design) (code : Code) (p : ℕ) (frame : Frame) (o : Option Action) (f : Flat) → (flat_action design code p frame o f).flat.rest.held_back ≡ f.rest.held_back
+action_holds design code p frame None f = refl
+action_holds design code p frame (Some action) f =
+    moves_hold_by (flat_after design code p frame action f).rest.cause (flat_after design code p frame action f).rest
+
+frame_holds : (design : Design) (code : Code) (p : ℕ) (o : Option Frame) (f : Flat) → (flat_frame design code p o f).flat.rest.held_back ≡ f.rest.held_back
+frame_holds design code p None f = refl
+frame_holds design code p (Some frame) f = action_holds design code p frame (slice_get design.actions (place_of frame)) f
+
+-- a step leaves what is held back for who looks at it
+step_holds : (design : Design) (code : Code) (c : Choice) (f : Flat) → (flat_transition_of design code c f).flat.rest.held_back ≡ f.rest.held_back
+step_holds design code (Run p) f = frame_holds design code p (frame_at code f.turns (point_in f.points p)) f
+step_holds design code Update f =
+    moves_hold_by (flat_updated code f).rest.cause (flat_updated code f).rest
+step_holds design code Advance f = moves_hold_by f.rest.cause (record f.rest { queue = with_advance f.rest.queue.future f.rest.queue })
+
+-- where departures only take, nothing is held back
+no_held_by : (f : Flat) (i : ℕ) (c : Choice) (x : FlatTransition) → f.rest.held_back ≡ None → x.flat.rest.held_back ≡ f.rest.held_back → held_view f i c x ≡ x
+no_held_by f i c x none is = λ k. record x { flat = record x.flat { rest = record x.flat.rest { held_back = kept k } } }
+  where
+    kept : held_after f.rest.held_back f.rest.queue i c x.flat.rest.queue ≡ x.flat.rest.held_back
+    kept = ap (λ (o : Option (List ℕ)). held_after o f.rest.queue i c x.flat.rest.queue) none ∙ sym (is ∙ none)
+
+pub no_held : (design : Design) (code : Code) (f : Flat) (i : ℕ) (c : Choice) (y : FlatTransition) → f.rest.held_back ≡ None →
+    flat_transition_of design code c f ≡ y → held_view f i c (flat_transition_of design code c f) ≡ y
+no_held design code f i c y none is = no_held_by f i c (flat_transition_of design code c f) none (step_holds design code c f) ∙ is
 
 -- where no lines are looked at none are kept
 no_lines_by : (design : Design) (f : Flat) (c : Choice) (x : FlatTransition) (bag : Option (List (List ℕ))) → bag ≡ None → x.flat.rest.printed ≡ bag →

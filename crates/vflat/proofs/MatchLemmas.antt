@@ -8,7 +8,7 @@ use Rattle.vdesign.specs.declared.action.Action.{Action}
 use Rattle.sched_core.specs.declared.end.Cause.{Cause}
 use Rattle.vmodel.specs.declared.choice.Choice.{Choice}
 use Rattle.vmodel.specs.declared.choice.Choice.TheVariants.{Run, Update, Advance}
-use Rattle.vmodel.specs.declared.effect.Effect.{Effect}
+use Rattle.vmodel.specs.Effects.{Effect, no_effect}
 use Rattle.vmodel.specs.declared.effect.Shown.{Shown}
 use Rattle.vmodel.specs.declared.effect.Shown.TheVariants.{Commands, Prints, Watches}
 use Rattle.vmodel.specs.declared.history.Item.{Item}
@@ -21,7 +21,7 @@ use Rattle.vmodel.specs.Parts.{with_parts}
 use Rattle.vmodel.specs.Printed.{printed_after}
 use Rattle.vmodel.specs.Queue.{Queue}
 use Rattle.vmodel.specs.State.{Process, State, without_processes}
-use Rattle.vmodel.specs.Step.{StepResult, Transition, no_effect, place_of, execute_at, process_to_continue, process_by, with_strobe, with_moves_by, monitors_by, complete, with_step, with_woken, transition_with, no_transition, environment_of, held_of, action_transition, continuation_transition, first_of, without_update, with_update, with_advance, transition_of, shown_items, slot_end_by, line_item, strobe_items, before_end, items_of, with_held_after, with_views, transition_by, next}
+use Rattle.vmodel.specs.Step.{StepResult, Transition, place_of, execute_at, process_to_continue, process_by, with_strobe, with_moves_by, monitors_by, complete, with_step, with_woken, transition_with, no_transition, environment_of, held_of, action_transition, continuation_transition, first_of, without_update, with_update, with_advance, transition_of, shown_items, slot_end_by, line_item, strobe_items, before_end, items_of, with_held_after, with_views, transition_by, next}
 use Rattle.vmodel.specs.Waking.{wakes, awake}
 use Rattle.vmodel.proofs.MovedLemmas.{is_there, order-process_with_move}
 use Rattle.vmodel.proofs.OpenLemmas.{IsOpen, open_choice}

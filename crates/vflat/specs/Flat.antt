@@ -19,7 +19,7 @@ use Rattle.vmodel.specs.declared.choice.Choice.{Choice}
 use Rattle.vmodel.specs.declared.choice.Choice.TheVariants.{Run, Update, Advance}
 use Rattle.vmodel.specs.declared.effect.Disposition.{Disposition}
 use Rattle.vmodel.specs.declared.effect.Disposition.TheVariants.{Runnable, Delayed, Waiting}
-use Rattle.vmodel.specs.declared.effect.Effect.{Effect}
+use Rattle.vmodel.specs.Effects.{Effect, no_effect}
 use Rattle.vmodel.specs.declared.part.Part.{Part}
 use Rattle.vmodel.specs.declared.process.Frame.{Frame}
 use Rattle.vmodel.specs.declared.process.Frame.TheVariants.{Executing, Repeating, Writing}
@@ -30,7 +30,7 @@ use Rattle.vmodel.specs.Kept.{waits_of}
 use Rattle.vmodel.specs.Parts.{with_parts}
 use Rattle.vmodel.specs.Queue.{with_process}
 use Rattle.vmodel.specs.State.{Process, State, without_processes}
-use Rattle.vmodel.specs.Step.{StepResult, Transition, no_effect, place_of, execute_at, posts, with_strobe, reschedule, complete, no_transition, environment_of, continuation_of, first_of, with_update, transition_of, with_views}
+use Rattle.vmodel.specs.Step.{StepResult, Transition, place_of, execute_at, posts, with_strobe, reschedule, complete, no_transition, environment_of, continuation_of, first_of, with_update, transition_of, with_views}
 use Rattle.vmodel.specs.Waking.{hears}
 use Rattle.vcompile.specs.Links.{place_number}
 use Rattle.vcompile.specs.CodeOf.{code_of}

@@ -10,7 +10,7 @@ use Rattle.vdesign.specs.declared.action.Term.{Term}
 use Rattle.vmodel.specs.declared.part.Part.{Part}
 use Rattle.vmodel.specs.declared.choice.Choice.{Choice}
 use Rattle.vmodel.specs.declared.choice.Choice.TheVariants.{Run, Update, Advance}
-use Rattle.vmodel.specs.declared.effect.Effect.{Effect}
+use Rattle.vmodel.specs.Effects.{Effect}
 use Rattle.vmodel.specs.declared.process.Frame.{Frame}
 use Rattle.vdesign.specs.Design.{Design}
 use Rattle.vmodel.specs.InnerSilent.{is_some_print, ShowsNoLine}

@@ -9,7 +9,7 @@ use Rattle.sched_core.specs.Rules.{Rules}
 use Rattle.sched_core.specs.Tests.{Tells}
 use Rattle.vcode.specs.Code.{Code}
 use Rattle.vdesign.specs.Design.{Design}
-use Rattle.vmodel.specs.declared.effect.Effect.{Effect}
+use Rattle.vmodel.specs.Effects.{Effect}
 use Rattle.vmodel.specs.Choices.{choices}
 use Rattle.vmodel.specs.Digest.{digest}
 use Rattle.vmodel.specs.Kept.{IsKept}

@@ -29,7 +29,7 @@ use vdesign::action::{Action, Edge};
 use vdesign::design::Design;
 use vmodel::choice::Choice;
 use vmodel::effect::{Disposition, Effect, effect_at};
-use vmodel::part::{Kept, Part, Parts};
+use vmodel::part::{Kept, Part};
 use vmodel::process::Frame;
 use vmodel::values::{value_after, value_in};
 use vmodel::{State, is_edge, is_print};
@@ -240,17 +240,21 @@ impl Flat {
         }
     }
 
-    // Those who listen to the variable of a part, where these parts are to be written.
-    #[tactic(auto, using(crate::proofs::FlatLemmas::told_change))]
+    // Those who listen to the variable of a part, where these parts are to be written. Where nobody does, no value is looked up.
+    #[tactic(auto, using(crate::proofs::FlatLemmas::told_change, crate::proofs::FlatLemmas::told_nobody))]
     fn tell_change(&mut self, code: &Code, parts: &[Part], part: &Part)
         ensures { (triggered : Option ℕ) → self.new
             ≡ told_of code.now parts.now triggered (Change Any (variable_of part.now) ∷ []) self.old }
     {
         let variable = part.variable();
+        let listeners = code.heard_by_variable(variable as usize);
+        if listeners.split_first().is_none() {
+            return;
+        }
         let old = value_in(self.rest.values(), variable);
         let new = value_after(self.rest.values(), parts, variable);
         let news = News::Changed { old, new };
-        self.wake_each(code, &news, code.heard_by_variable(variable as usize));
+        self.wake_each(code, &news, listeners);
     }
 
     // Those who listen to the event that is triggered, if one is.
@@ -285,10 +289,11 @@ impl Flat {
     }
 
     // The same of what a step wrote.
-    fn write(&mut self, code: &Code, wrote: &Parts, triggered: Option<usize>)
-        ensures { self.new ≡ write_and_wake code.now wrote.now triggered self.old }
+    fn write(&mut self, code: &Code, effect: &Effect)
+        ensures { self.new ≡ write_and_wake code.now effect.now.wrote effect.now.triggered self.old }
     {
-        match wrote.kept() {
+        let triggered = effect.triggered();
+        match effect.wrote() {
             Kept::One(part) => self.write_parts(code, &[part], triggered),
             Kept::Many(parts) => self.write_parts(code, parts, triggered),
         }
@@ -322,9 +327,9 @@ impl Flat {
         set_point(
             &mut self.points,
             process as usize,
-            stands_by(effect.disposition, to),
+            stands_by(effect.disposition(), to),
         );
-        set_held(&mut self.held, process as usize, effect.held);
+        set_held(&mut self.held, process as usize, effect.held());
         Ok(())
     }
 
@@ -332,12 +337,13 @@ impl Flat {
     fn finish(&mut self, code: &Code, effect: &Effect, monitors: &mut Vec<usize>)
         ensures { flat_to self.new effect.now monitors.new.items ≡ finish code.now effect.now self.old }
     {
-        self.write(code, &effect.wrote, effect.triggered);
-        self.rest.end_by(effect.cause);
+        self.write(code, effect);
+        self.rest.end_by(effect.cause());
         self.rest.close(monitors);
     }
 
     // What a process executes, and the action there, if there is one.
+    #[inline(always)]
     fn action_of<'d>(
         &self,
         design: &'d Design,
@@ -386,13 +392,9 @@ impl Flat {
         ensures { (design : DesignOf) → flat_transition_of design code.now Choice.Update self.old
             ≡ flat_to self.new effect.new monitors.new.items }
     {
-        let update = self.rest.take_update();
-        self.write(code, &update, None);
+        *effect = Effect::of_write(self.rest.take_update());
+        self.write(code, effect);
         self.rest.close(monitors);
-        *effect = Effect {
-            wrote: update,
-            ..Effect::none()
-        };
     }
 
     // The time goes on to the next future time.
@@ -432,6 +434,7 @@ impl Flat {
     }
 
     // The same of choice `i`, which is this one, with what is held back from now on.
+    #[tactic(auto, using(crate::proofs::FlatLemmas::no_held))]
     fn take_holding(
         &mut self,
         design: &Design,
@@ -447,10 +450,15 @@ impl Flat {
         ensures err { OnErr result (self.new ≡ self.old) }
         ensures err_monitors { OnErr result (monitors.new.items ≡ monitors.old.items) }
     {
-        let held = self.rest.held_with(i, choice);
-        self.take(design, code, choice, effect, monitors)?;
-        self.rest.hold(held);
-        Ok(())
+        match self.rest.held_back() {
+            None => self.take(design, code, choice, effect, monitors),
+            Some(_) => {
+                let held = self.rest.held_with(i, choice);
+                self.take(design, code, choice, effect, monitors)?;
+                self.rest.hold(held);
+                Ok(())
+            }
+        }
     }
 
     // Whether the choice is of a process that comes to a print task.

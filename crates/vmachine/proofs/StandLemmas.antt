@@ -3,7 +3,7 @@ use Rattle.std.proofs.Common.{◌≡◌, ℕ, true, List, length, refl, sym, ap,
 use Rattle.sched_core.specs.Rules.{IsRun, stands}
 use Rattle.vmodel.specs.State.{State, without_processes}
 use Rattle.vmodel.specs.Choices.{choices}
-use Rattle.vmodel.specs.declared.effect.Effect.{Effect}
+use Rattle.vmodel.specs.Effects.{Effect}
 use Rattle.vmodel.specs.InnerStep.{transition_to}
 use Rattle.vmodel.specs.Step.{next, items_of, slot_end_of}
 use Rattle.vmodel.specs.RunProgress.{opening_is}

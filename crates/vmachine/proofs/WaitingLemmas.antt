@@ -1,7 +1,7 @@
 -- What is pending, as a machine's state has it and as the state of the run has.
 use Rattle.std.proofs.Common.{◌≡◌, ℕ, Bool, false, List, [], ◌++◌, append-nil, sym, ap, subst, ◌∙◌}
 use Rattle.vdesign.specs.Design.{Design}
-use Rattle.vmodel.specs.declared.effect.Effect.{Effect}
+use Rattle.vmodel.specs.Effects.{Effect}
 use Rattle.vmodel.specs.declared.history.Item.{Item}
 use Rattle.vmodel.specs.InnerStep.{transition_to}
 use Rattle.vmodel.specs.Run.{Setting, is_mark}

@@ -293,7 +293,7 @@ impl Machine {
                 &mut effect,
                 &mut monitors,
             )?;
-            touched.touch_all(&effect.wrote);
+            touched.touch_all(&effect);
             put_pending(
                 &mut run.pending,
                 &self.design,

@@ -13,6 +13,7 @@ mod RanLemmas
 pub mod AwakeLemmas
 mod OrderLemmas
 mod BagLemmas
+mod ChoiceLemmas
 pub mod OpenLemmas
 mod HeldLemmas
 pub mod KeptLemmas

@@ -5,7 +5,7 @@ use Rattle.vdesign.specs.Design.{Design}
 use Rattle.vdesign.specs.declared.action.Action.{Action}
 use Rattle.sched_core.specs.declared.end.Cause.{Cause}
 use Rattle.vmodel.specs.declared.history.Item.{Item}
-use Rattle.vmodel.specs.declared.effect.Effect.{Effect}
+use Rattle.vmodel.specs.Effects.{Effect, no_effect}
 use Rattle.vmodel.specs.declared.effect.Shown.{Shown}
 use Rattle.vmodel.specs.declared.effect.Shown.TheVariants.{Commands, Prints, Watches}
 use Rattle.vmodel.specs.declared.process.Frame.{Frame}
@@ -16,7 +16,7 @@ use Rattle.vmodel.specs.InnerStep.{transition_to}
 use Rattle.vmodel.specs.Holding.{held_after}
 use Rattle.vmodel.specs.Printed.{printed_after}
 use Rattle.vmodel.specs.Choices.{choices}
-use Rattle.vmodel.specs.Step.{Transition, environment_of, no_effect, execute_at, held_of, with_step, place_of, with_moves_by, with_woken, with_moves, monitors_by, complete, first_of, with_update, with_advance, action_transition, continuation_transition, continuation_of, transition_of, line_item, shown_items, slot_end_by, slot_end_of, strobe_items, before_end, items_of, with_held_after, with_lines_after, with_views, transition_by, next}
+use Rattle.vmodel.specs.Step.{Transition, environment_of, execute_at, held_of, with_step, place_of, with_moves_by, with_woken, with_moves, monitors_by, complete, first_of, with_update, with_advance, action_transition, continuation_transition, continuation_of, transition_of, line_item, shown_items, slot_end_by, slot_end_of, strobe_items, before_end, items_of, with_held_after, with_lines_after, with_views, transition_by, next}
 
 -- ---- what stays
 

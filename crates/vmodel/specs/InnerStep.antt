@@ -3,12 +3,12 @@ use Rattle.std.specs.Prelude.{ℕ, Bool, if◌then◌else◌, ◌∷◌, List, O
 use Rattle.vbits.specs.Vectors.{Vector}
 use Rattle.vmodel.specs.declared.process.Frame.{Frame}
 use Rattle.vmodel.specs.declared.process.Frame.TheVariants.{Executing}
-use Rattle.vmodel.specs.declared.effect.Effect.{Effect}
+use Rattle.vmodel.specs.Effects.{Effect, no_effect}
 use Rattle.vmodel.specs.declared.effect.Disposition.TheVariants.{Waiting}
 use Rattle.vmodel.specs.Queue.{Queue}
 use Rattle.sched_core.specs.declared.end.Cause.{Cause}
 use Rattle.vmodel.specs.State.{Process, State}
-use Rattle.vmodel.specs.Step.{StepResult, Transition, frames, process_to_continue, process_by, reschedule, posts, with_strobe, continuation_of, held_of, no_effect}
+use Rattle.vmodel.specs.Step.{StepResult, Transition, frames, process_to_continue, process_by, reschedule, posts, with_strobe, continuation_of, held_of}
 
 -- what a process holds, among all
 abbrev pub held_in : List Process → ℕ → Option Vector

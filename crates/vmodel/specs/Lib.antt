@@ -10,6 +10,8 @@ pub mod Choices
 pub mod Holding
 pub mod Printed
 pub mod History
+pub mod Effects
+pub mod InnerEffect
 pub mod Step
 pub mod Same
 pub mod SameLaws

@@ -21,7 +21,6 @@ use Rattle.vmodel.specs.declared.process.Frame.{Frame}
 use Rattle.vmodel.specs.declared.process.Frame.TheVariants.{Executing, Repeating, Writing}
 use Rattle.vmodel.specs.declared.effect.Disposition.{Disposition}
 use Rattle.vmodel.specs.declared.effect.Disposition.TheVariants.{Runnable, Delayed, Waiting}
-use Rattle.vmodel.specs.declared.effect.Effect.{Effect}
 use Rattle.vmodel.specs.declared.effect.Post.{Post}
 use Rattle.vmodel.specs.declared.effect.Shown.{Shown}
 use Rattle.vmodel.specs.declared.effect.Shown.TheVariants.{Commands, Prints, Watches}
@@ -30,6 +29,7 @@ use Rattle.vvalue.specs.Value.{Environment, written_time, holds, delay_of}
 use Rattle.vvalue.specs.Cases.{places_of_case, turns_of}
 use Rattle.line_text.specs.LineText.{pieces_text}
 use Rattle.vmodel.specs.Value.{assigned_parts, held_value, resumed_parts}
+use Rattle.vmodel.specs.Effects.{Effect, no_effect}
 use Rattle.vmodel.specs.Parts.{with_parts}
 use Rattle.vmodel.specs.Queue.{Later, Queue, with_process, without_process, slot_with_sleeper, slot_with_update, later}
 use Rattle.vmodel.specs.State.{Process, State}
@@ -47,19 +47,6 @@ use Rattle.vmodel.specs.Printed.{printed_after}
 pub record StepResult : Type 0 where
   pub continuation : List Frame
   pub effect : Effect
-
--- a step that does nothing but go on
-abbrev pub no_effect : Effect
-no_effect = record {
-  held = None;
-  disposition = Runnable;
-  wrote = [];
-  posted = None;
-  triggered = None;
-  shown = None;
-  strobed = None;
-  cause = None;
-}
 
 -- an update that is posted for so much later
 abbrev pub post_after : ℕ → List Part → Post

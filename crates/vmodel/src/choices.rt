@@ -1,6 +1,6 @@
 // The choices of a queue, counted and found by their numbers (IEEE 1364-2005, 11.4.1, 11.4.2).
 
-ghost use Rattle.std.specs.Prelude.{◌≡◌, ◌<◌, ◌≤◌, length, slice_get, map, Some};
+ghost use Rattle.std.specs.Prelude.{◌≡◌, ◌==◌, ◌<◌, ◌≤◌, not, length, slice_get, map, Some};
 ghost use Rattle.std.specs.Option.{ForSome};
 ghost use Rattle.vmodel.specs.Choices.{in_order, active_choices, queue_choices, free_among, order_of, choices_by, IsWithin};
 
@@ -85,22 +85,54 @@ fn width(queue: &Queue) -> u32
     }
 }
 
+// Whether an update is active.
+fn has_update(queue: &Queue) -> bool
+    ensures { (length queue.now.activated == 0) ≡ not result }
+{
+    !queue.activated.is_empty()
+}
+
+// Whether there is a future time within the limit.
+fn has_future(queue: &Queue) -> bool
+    ensures { (length queue.now.future == 0) ≡ not result }
+{
+    !queue.future.is_empty()
+}
+
+// The first choice where departures only take, if there is one.
+fn first_choice(queue: &Queue) -> Option<Choice>
+    ensures exact { result ≡ slice_get (queue_choices queue.now) 0 }
+    ensures few { ForSome result IsWithin }
+{
+    if let Some(last) = queue.last {
+        return Some(Choice::Run(last));
+    }
+    if let Some(process) = queue.active.first() {
+        return Some(Choice::Run(process));
+    }
+    if has_update(queue) {
+        return Some(Choice::Update);
+    }
+    if has_future(queue) {
+        Some(Choice::Advance)
+    } else {
+        None
+    }
+}
+
 // The choice of this number where departures only take, if there is one.
 fn choice_at(queue: &Queue, i: u32) -> Option<Choice>
     ensures exact { result ≡ slice_get (queue_choices queue.now) i }
     ensures few { ForSome result IsWithin }
 {
-    if let (Grain::Process, Some(last)) = (queue.grain, queue.last) {
-        return if i == 0 {
-            Some(Choice::Run(last))
-        } else {
-            None
-        };
+    if i == 0 {
+        return first_choice(queue);
+    }
+    if let (Grain::Process, Some(_)) = (queue.grain, queue.last) {
+        return None;
     }
     if active_width(queue, &queue.active) > 0 {
         active_choice(queue, &queue.active, i)
-    } else if i == 0 && !queue.future.is_empty() {
-        Some(Choice::Advance)
     } else {
         None
     }

@@ -1,19 +1,22 @@
 // What a step of a process does (IEEE 1364-2005, clause 9): its disposition, what it writes, posts, shows, and whether it ends the run.
 
-ghost use Rattle.std.specs.Prelude.{◌≡◌, [], ℕ, List, cond, IfOk, OnOk};
+ghost use Rattle.std.specs.Prelude.{◌≡◌, [], ℕ, List, cond, IfOk, OnOk, option_map};
 ghost use Rattle.vvalue.specs.Value.{holds as holds_at, delay_of as delay_at};
 ghost use Rattle.vmodel.specs.declared.process.Frame.{Frame};
+ghost use Rattle.vmodel.specs.Effects.{no_effect};
+ghost use Rattle.vmodel.specs.Inner.{kept_parts};
 ghost use Rattle.vmodel.specs.Step as spec;
 ghost use Rattle.vmodel.specs.Value.{assigned_parts as assigned_at, held_value as held_at, resumed_parts as resumed_at};
 ghost use Rattle.vmodel.specs.Step.{execute, execute_at};
 ghost use Rattle.vmodel.specs.InnerStep.{wait_result, behind, step_result, effect_of_end, while_result};
 
-use crate::part::Parts;
+use crate::part::{Kept, Parts};
 use crate::process::Frame;
 use crate::value::{assigned_parts, held_value, resumed_parts};
 use basis::NoMemory;
 use sched_core::end::Cause;
 use std::alloc::Global;
+use std::marker::Model;
 use vbits::Vec4;
 use vdesign::action::{Action, Places, Target, Targets};
 use vdesign::dump::{DumpCommand, DumpSwitch};
@@ -52,123 +55,216 @@ pub enum Shown {
     Watches(usize),
 }
 
-/// What a step does, beside what its process has left.
+/// The forms of effects: a step does one of these things, beside what its process has left.
+#[derive(Drop)]
+pub(crate) enum Form {
+    /// It only goes on.
+    Nothing,
+    /// It writes these parts, from left to right (6.2).
+    Write(Parts),
+    /// It writes these parts, and waits at the continuous assignment of this place (6.1).
+    Drive(Parts, usize),
+    /// It posts a nonblocking update (11.4).
+    Post(Post),
+    /// It triggers this named event (9.7.3).
+    Trigger(usize),
+    /// It suspends its process (9.7).
+    Suspend(Disposition),
+    /// Its process holds this value, and sleeps so long, in units of the precision (9.7.7).
+    Hold(Vec4, u128),
+    /// It shows something at once.
+    Show(Shown),
+    /// It creates a monitor event: the line of the print task at this place, at the end of the slot (11.3, 17.1.2).
+    Strobe(usize),
+    /// It ends the run (17.4).
+    End(Cause),
+}
+
+/// What a step does, beside what its process has left. A clause sees it as the record `Effect` of specs/Effects.antt.
 #[derive(Drop)]
 pub struct Effect {
-    /// The value that a suspended assignment holds from now on (9.7.7).
-    pub held: Option<Vec4>,
-    pub disposition: Disposition,
-    /// What is written, from left to right.
-    pub wrote: Parts,
-    /// A nonblocking update that is posted (11.4).
-    pub posted: Option<Post>,
-    /// The named event that is triggered (9.7.3).
-    pub triggered: Option<usize>,
-    /// What it shows at once.
-    pub shown: Option<Shown>,
-    /// A monitor event that is created: the line of the print task at this place, at the end of the slot (11.3, 17.1.2).
-    pub strobed: Option<usize>,
-    /// Why the run ends, if it does (17.4).
-    pub cause: Option<Cause>,
+    pub(crate) form: Form,
+}
+
+impl Model for Effect {
+    ghost use Rattle.vmodel.specs.Effects as effects;
+    ghost use Rattle.vmodel.specs.InnerEffect.{effect_of};
+
+    ghost Value = { effects.Effect };
+
+    ghost view = { λ e. effect_of e.form };
 }
 
 impl Effect {
     /// What a step does that only goes on.
     pub fn none() -> Effect
-        ensures { result ≡ spec.no_effect }
+        ensures { result ≡ no_effect }
     {
         Effect {
-            held: None,
-            disposition: Disposition::Runnable,
-            wrote: Parts::none(),
-            posted: None,
-            triggered: None,
-            shown: None,
-            strobed: None,
-            cause: None,
+            form: Form::Nothing,
         }
     }
-}
 
-/// A step that writes (6.2).
-pub(crate) fn write_effect(parts: Parts) -> Effect
-    ensures { result ≡ record spec.no_effect { wrote = parts } }
-{
-    Effect {
-        wrote: parts,
-        ..Effect::none()
-    }
-}
-
-impl Effect {
-    // From here on it is that of a step that only goes on. Field by field, so that nothing is moved.
-    fn reset(&mut self)
-        ensures { self.new ≡ spec.no_effect }
+    /// What a step does that writes (6.2).
+    pub fn of_write(parts: Parts) -> Effect
+        ensures { result ≡ record no_effect { wrote = parts } }
     {
-        self.held = None;
-        self.disposition = Disposition::Runnable;
-        self.wrote = Parts::none();
-        self.posted = None;
-        self.triggered = None;
-        self.shown = None;
-        self.strobed = None;
-        self.cause = None;
+        Effect {
+            form: Form::Write(parts),
+        }
+    }
+
+    /// The value that a suspended assignment holds from now on (9.7.7).
+    pub fn held(&self) -> Option<Vec4>
+        ensures { result ≡ self.now.held }
+    {
+        match &self.form {
+            Form::Hold(value, _) => Some(*value),
+            _ => None,
+        }
+    }
+
+    /// What becomes of the process.
+    pub fn disposition(&self) -> Disposition
+        ensures { result ≡ self.now.disposition }
+    {
+        match &self.form {
+            Form::Drive(_, place) => Disposition::Waiting(*place),
+            Form::Suspend(disposition) => *disposition,
+            Form::Hold(_, delay) => Disposition::Delayed(*delay),
+            _ => Disposition::Runnable,
+        }
+    }
+
+    /// What is written, from left to right.
+    pub fn wrote(&self) -> Kept<'_>
+        ensures { kept_parts result ≡ self.now.wrote }
+    {
+        match &self.form {
+            Form::Write(parts) => parts.kept(),
+            Form::Drive(parts, _) => parts.kept(),
+            _ => Kept::Many(&[]),
+        }
+    }
+
+    /// A nonblocking update that is posted (11.4).
+    pub fn posted(&self) -> Option<&Post>
+        ensures { option_map (λ post. post.now) result ≡ self.now.posted }
+    {
+        match &self.form {
+            Form::Post(post) => Some(post),
+            _ => None,
+        }
+    }
+
+    /// The named event that is triggered (9.7.3).
+    pub fn triggered(&self) -> Option<usize>
+        ensures { result ≡ self.now.triggered }
+    {
+        match &self.form {
+            Form::Trigger(event) => Some(*event),
+            _ => None,
+        }
+    }
+
+    /// What it shows at once.
+    pub fn shown(&self) -> Option<Shown>
+        ensures { result ≡ self.now.shown }
+    {
+        match &self.form {
+            Form::Show(shown) => Some(*shown),
+            _ => None,
+        }
+    }
+
+    /// A monitor event that is created: the line of the print task at this place, at the end of the slot (11.3, 17.1.2).
+    pub fn strobed(&self) -> Option<usize>
+        ensures { result ≡ self.now.strobed }
+    {
+        match &self.form {
+            Form::Strobe(place) => Some(*place),
+            _ => None,
+        }
+    }
+
+    /// Why the run ends, if it does (17.4).
+    pub fn cause(&self) -> Option<Cause>
+        ensures { result ≡ self.now.cause }
+    {
+        match &self.form {
+            Form::End(cause) => Some(*cause),
+            _ => None,
+        }
+    }
+
+    // From here on it is that of a step that only goes on.
+    fn reset(&mut self)
+        ensures { self.new ≡ no_effect }
+    {
+        self.form = Form::Nothing;
     }
 
     // That of a step that ends the run (17.4).
     fn end(&mut self, cause: Cause)
         ensures { self.new ≡ effect_of_end cause }
     {
-        self.reset();
-        self.cause = Some(cause);
+        self.form = Form::End(cause);
     }
 
     // That of a step that writes (6.2).
     fn write(&mut self, parts: Parts)
-        ensures { self.new ≡ record spec.no_effect { wrote = parts } }
+        ensures { self.new ≡ record no_effect { wrote = parts } }
     {
-        self.reset();
-        self.wrote = parts;
+        self.form = Form::Write(parts);
+    }
+
+    // That of a step that writes, and waits at the continuous assignment of this place (6.1).
+    fn drive(&mut self, parts: Parts, place: usize)
+        ensures { self.new ≡ record no_effect { wrote = parts; disposition = Disposition.Waiting place } }
+    {
+        self.form = Form::Drive(parts, place);
     }
 
     // That of a step that posts an update for so much later (11.4).
     fn post(&mut self, after: u128, parts: Parts)
-        ensures { self.new ≡ record spec.no_effect { posted = Some (spec.post_after after parts) } }
+        ensures { self.new ≡ record no_effect { posted = Some (spec.post_after after parts) } }
     {
-        self.reset();
-        self.posted = Some(Post { after, parts });
+        self.form = Form::Post(Post { after, parts });
     }
 
     // That of a step that triggers a named event (9.7.3).
     fn trigger(&mut self, event: usize)
-        ensures { self.new ≡ record spec.no_effect { triggered = Some event } }
+        ensures { self.new ≡ record no_effect { triggered = Some event } }
     {
-        self.reset();
-        self.triggered = Some(event);
+        self.form = Form::Trigger(event);
     }
 
     // That of a step that suspends its process (9.7).
     fn suspend(&mut self, disposition: Disposition)
-        ensures { self.new ≡ record spec.no_effect { disposition = disposition } }
+        ensures { self.new ≡ record no_effect { disposition = disposition } }
     {
-        self.reset();
-        self.disposition = disposition;
+        self.form = Form::Suspend(disposition);
+    }
+
+    // That of a step after which its process holds a value and sleeps (9.7.7).
+    fn hold(&mut self, value: Vec4, delay: u128)
+        ensures { self.new ≡ record no_effect { held = Some value; disposition = Disposition.Delayed delay } }
+    {
+        self.form = Form::Hold(value, delay);
     }
 
     // That of a step that shows something at once.
     fn show(&mut self, shown: Shown)
-        ensures { self.new ≡ record spec.no_effect { shown = Some shown } }
+        ensures { self.new ≡ record no_effect { shown = Some shown } }
     {
-        self.reset();
-        self.shown = Some(shown);
+        self.form = Form::Show(shown);
     }
 
     // That of a step that creates a monitor event (17.1.2).
     fn strobe(&mut self, place: usize)
-        ensures { self.new ≡ record spec.no_effect { strobed = Some place } }
+        ensures { self.new ≡ record no_effect { strobed = Some place } }
     {
-        self.reset();
-        self.strobed = Some(place);
+        self.form = Form::Strobe(place);
     }
 
     // That of the print task of this place (17.1).
@@ -304,10 +400,9 @@ fn branch_of<'d>(
 fn continuous_assign_of<'d>(place: usize, parts: Parts, effect: &mut Effect) -> Course<'d>
     ensures next { result.next.now ≡ [] }
     ensures then { result.then ≡ Some (Frame.Executing place) }
-    ensures effect { effect.new ≡ record spec.no_effect { wrote = parts; disposition = Disposition.Waiting place } }
+    ensures effect { effect.new ≡ record no_effect { wrote = parts; disposition = Disposition.Waiting place } }
 {
-    effect.write(parts);
-    effect.disposition = Disposition::Waiting(place);
+    effect.drive(parts, place);
     comes_again(place, &[])
 }
 
@@ -322,7 +417,7 @@ fn assign_of<'d>(
     ensures next { IfOk result (λ course. course.next.now ≡ []) }
     ensures then { IfOk result (λ course. course.then ≡ None) }
     ensures effect { OnOk result
-        (effect.new ≡ record spec.no_effect { wrote = assigned_at environment.now targets.now value.now }) }
+        (effect.new ≡ record no_effect { wrote = assigned_at environment.now targets.now value.now }) }
 {
     effect.write(assigned_parts(alloc, targets, value, environment)?);
     Ok(goes_to(&[]))
@@ -339,7 +434,7 @@ fn post_of<'d>(
 ) -> Result<Course<'d>, NoMemory>
     ensures next { IfOk result (λ course. course.next.now ≡ []) }
     ensures then { IfOk result (λ course. course.then ≡ None) }
-    ensures effect { OnOk result (effect.new ≡ record spec.no_effect {
+    ensures effect { OnOk result (effect.new ≡ record no_effect {
       posted = Some (spec.post_after delay (assigned_at environment.now targets.now value.now));
     }) }
 {
@@ -358,13 +453,13 @@ fn assign_delayed_of<'d>(
 ) -> Course<'d>
     ensures next { result.next.now ≡ [] }
     ensures then { result.then ≡ Some (Frame.Writing place) }
-    ensures effect { effect.new ≡ record spec.no_effect {
+    ensures effect { effect.new ≡ record no_effect {
       held = Some (held_at environment.now targets.now value.now);
       disposition = Disposition.Delayed (delay_at environment.now amount.now);
     } }
 {
-    effect.suspend(Disposition::Delayed(delay_of(amount, environment)));
-    effect.held = Some(held_value(targets, value, environment));
+    let held = held_value(targets, value, environment);
+    effect.hold(held, delay_of(amount, environment));
     Course {
         next: &[],
         then: Some(Frame::Writing(place)),
@@ -519,7 +614,7 @@ fn written_of<'d>(
     ensures next { IfOk result (λ course. course.next.now ≡ []) }
     ensures then { IfOk result (λ course. course.then ≡ None) }
     ensures effect { OnOk result
-        (effect.new ≡ record spec.no_effect { wrote = resumed_at environment.now targets.now held }) }
+        (effect.new ≡ record no_effect { wrote = resumed_at environment.now targets.now held }) }
 {
     effect.write(resumed_parts(alloc, targets, held, environment)?);
     Ok(goes_to(&[]))
@@ -554,6 +649,7 @@ fn resume_of<'d>(
 
 /// What the action that this frame is at does at this moment, with the value that the process holds: where the process goes is
 /// answered, and the effect is then what else it does. E901 is the only refusal; the effect may then be any.
+#[inline(always)]
 pub fn effect_at<'d>(
     alloc: Global,
     frame: Frame,

@@ -6,7 +6,7 @@ ghost use Rattle.vmodel.specs.Queue.{slot_with_sleeper, slot_with_update, later}
 ghost use Rattle.vmodel.specs.Inner.{time_after as time_after_of, without_last_strobe};
 ghost use Rattle.vmodel.specs.Step.{deactivate, with_next_step, with_delay, reschedule, posts as posts_update, with_strobe, with_queue_moves, monitors_in, without_update, with_advance};
 
-use crate::effect::{Disposition, Effect, Post};
+use crate::effect::{Disposition, Effect, Form, Post};
 use crate::future::{copy_future, post_at, wake_at};
 use crate::part::Parts;
 use crate::queue::{Future, Queue, copy_updates};
@@ -119,56 +119,6 @@ impl Queue {
         Ok(())
     }
 
-    // The update is posted and the process sleeps, both or neither: no action does both.
-    fn post_and_sleep(
-        &mut self,
-        process: u32,
-        delay: u128,
-        post: &Post,
-        goes: Option<u32>,
-    ) -> Result<(), NoMemory>
-        requires { ForSome goes (λ p. p < 256) }
-        ensures ok { OnOk result (self.new
-            ≡ reschedule process (Disposition.Delayed delay) goes (posts_update (Some post.now) self.old)) }
-        ensures err { OnErr result (self.new ≡ self.old) }
-    {
-        let mut after = self.copy(*self.future.allocator())?;
-        after.post(post)?;
-        after.reschedule(process, Disposition::Delayed(delay), goes)?;
-        mem::swap(self, &mut after);
-        Ok(())
-    }
-
-    /// What becomes of a process and of what its step posted. After want of memory the queue is as it was.
-    fn post_and_reschedule(
-        &mut self,
-        process: u32,
-        disposition: Disposition,
-        posted: &Option<Post>,
-        goes: Option<u32>,
-    ) -> Result<(), NoMemory>
-        requires { ForSome goes (λ p. p < 256) }
-        ensures ok { OnOk result
-            (self.new ≡ reschedule process disposition goes (posts_update posted.now self.old)) }
-        ensures err { OnErr result (self.new ≡ self.old) }
-    {
-        let Some(post) = posted else {
-            return self.reschedule(process, disposition, goes);
-        };
-        match disposition {
-            Disposition::Runnable => {
-                self.post(post)?;
-                self.go_on(process, goes);
-            }
-            Disposition::Delayed(delay) => self.post_and_sleep(process, delay, post, goes)?,
-            Disposition::Waiting(_) => {
-                self.post(post)?;
-                self.leave(process);
-            }
-        }
-        Ok(())
-    }
-
     // A monitor event stands behind those created before. After want of memory the queue is as it was.
     fn strobe(&mut self, place: usize) -> Result<(), NoMemory>
         ensures ok { OnOk result (self.new ≡ with_strobe (Some place) self.old) }
@@ -176,13 +126,6 @@ impl Queue {
     {
         self.strobes.push(place)?;
         Ok(())
-    }
-
-    // The last monitor event is gone.
-    fn take_strobe_back(&mut self)
-        ensures { self.new ≡ without_last_strobe self.old }
-    {
-        self.strobes.pop();
     }
 
     /// What becomes of a process, of what its step posted and of the monitor event that it created. After want of memory the queue is
@@ -198,20 +141,25 @@ impl Queue {
             (posts_update effect.now.posted (with_strobe effect.now.strobed self.old))) }
         ensures err { OnErr result (self.new ≡ self.old) }
     {
-        let Some(place) = effect.strobed else {
-            return self.post_and_reschedule(process, effect.disposition, &effect.posted, goes);
-        };
-        self.strobe(place)?;
-        let process_with_move = self.post_and_reschedule(
-            process,
-            effect.disposition,
-            &effect.posted,
-            goes,
-        );
-        if process_with_move.is_err() {
-            self.take_strobe_back();
+        match &effect.form {
+            Form::Nothing => self.go_on(process, goes),
+            Form::Write(_) => self.go_on(process, goes),
+            Form::Drive(_, _) => self.leave(process),
+            Form::Post(post) => {
+                self.post(post)?;
+                self.go_on(process, goes);
+            }
+            Form::Trigger(_) => self.go_on(process, goes),
+            Form::Suspend(disposition) => self.reschedule(process, *disposition, goes)?,
+            Form::Hold(_, delay) => self.reschedule(process, Disposition::Delayed(*delay), goes)?,
+            Form::Show(_) => self.go_on(process, goes),
+            Form::Strobe(place) => {
+                self.strobe(*place)?;
+                self.go_on(process, goes);
+            }
+            Form::End(_) => self.go_on(process, goes),
         }
-        process_with_move
+        Ok(())
     }
 
     /// The region moves (11.4): while something is active it stays, else what is inactive becomes active, else what is

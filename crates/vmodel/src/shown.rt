@@ -124,7 +124,7 @@ pub fn put_front(
     ensures front { OnErr result (HasFront items.old.items
         (front_items design.now (transition_to state.now effect.now monitors.now)) items.new.items) }
 {
-    if let Some(shown) = effect.shown {
+    if let Some(shown) = effect.shown() {
         put_shown(items, design, state, shown)?;
     }
     if monitors.is_empty() || !state.is_slot_end() {

@@ -1,6 +1,6 @@
 // The state of a run (IEEE 1364-2005, 11.1, 11.3), as the plain step works on it.
 
-ghost use Rattle.std.specs.Prelude.{◌≡◌, length, slice_get, IfOk, IfSome, option_map};
+ghost use Rattle.std.specs.Prelude.{◌≡◌, length, nat_lt, slice_get, IfOk, IfSome, option_map};
 ghost use Rattle.std.specs.Option.{ForSome};
 ghost use Rattle.vmodel.specs.Choices.{choices as choices_of, IsWithin};
 ghost use Rattle.vmodel.specs.Holding.{held_by_choice};
@@ -117,6 +117,17 @@ impl State {
         }
     }
 
+    /// Whether there is a choice `i`; where `i` is 0, whether the run goes on.
+    pub fn has_choice(&self, i: u32) -> bool
+        ensures { result ≡ nat_lt i (length (choices_of self.now)) }
+    {
+        if i == 0 {
+            self.choice(0).is_some()
+        } else {
+            i < self.width()
+        }
+    }
+
     /// What choice `i` is, if there is one. Nothing changes.
     pub fn choice(&self, i: u32) -> Option<Choice>
         ensures exact { result ≡ slice_get (choices_of self.now) i }
@@ -134,6 +145,13 @@ impl State {
         ensures { result ≡ held_by_choice self.now.held_back self.now.queue i }
     {
         holding::held_by_choice(&self.held_back, &self.queue, i)
+    }
+
+    /// The processes that are held back, where departures may hold back.
+    pub fn held_back(&self) -> Option<&ProcessSet>
+        ensures { option_map (λ held. held.now) result ≡ self.now.held_back }
+    {
+        self.held_back.as_ref()
     }
 
     /// The lines of the slot so far, where lines are looked at.

@@ -16,7 +16,7 @@ ghost use Rattle.vmodel.specs.InnerStep.{state_with_move, with_cause, behind, co
 
 use crate::choice::Choice;
 use crate::continuation::Continuation;
-use crate::effect::{Disposition, Effect, effect_at, write_effect};
+use crate::effect::{Disposition, Effect, effect_at};
 use crate::history::Item;
 use crate::holding::{held_with, release};
 use crate::part::{Kept, Part, Parts};
@@ -88,8 +88,8 @@ fn move_process(
     let goes = goes_after(number, continuation, then, next);
     queue.move_by(number, effect, goes)?;
     continuation.advance(then, next);
-    process.held = effect.held;
-    process.waits = waits_by(effect.disposition, goes);
+    process.held = effect.held();
+    process.waits = waits_by(effect.disposition(), goes);
     Ok(())
 }
 
@@ -251,11 +251,12 @@ impl State {
     }
 
     // What a step wrote is written, and what waits for a change by it, or for the event that it triggers, goes on.
-    fn write(&mut self, design: &Design, wrote: &Parts, triggered: Option<usize>)
-        ensures { self.new ≡ with_woken design.now self.old.values triggered
-            (record self.old { values = with_parts wrote.now self.old.values }) }
+    fn write(&mut self, design: &Design, effect: &Effect)
+        ensures { self.new ≡ with_woken design.now self.old.values effect.now.triggered
+            (record self.old { values = with_parts effect.now.wrote self.old.values }) }
     {
-        match wrote.kept() {
+        let triggered = effect.triggered();
+        match effect.wrote() {
             Kept::One(part) => match triggered {
                 None => self.write_one(design, part),
                 Some(_) => self.write_many(design, &[part], triggered),
@@ -300,8 +301,8 @@ impl State {
             (with_woken design.now self.old.values effect.now.triggered
             (record self.old { values = with_parts effect.now.wrote self.old.values }))) }
     {
-        self.write(design, &effect.wrote, effect.triggered);
-        self.cause = effect.cause;
+        self.write(design, effect);
+        self.cause = effect.cause();
         self.close(monitors);
     }
 
@@ -339,10 +340,9 @@ impl State {
         ensures { transition_of design.now Choice.Update self.old
             ≡ transition_to self.new effect.new monitors.new.items }
     {
-        let update = take_first(&mut self.queue);
-        self.write(design, &update, None);
+        *effect = Effect::of_write(take_first(&mut self.queue));
+        self.write(design, effect);
         self.close(monitors);
-        *effect = write_effect(update);
     }
 
     /// The time goes on to the next future time.

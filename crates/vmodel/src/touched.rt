@@ -3,7 +3,8 @@
 ghost use Rattle.std.specs.Prelude.{◌≡◌, ◌∷◌, [], None, Some, option_map};
 ghost use Rattle.vmodel.specs.Touched as spec;
 
-use crate::part::{Kept, Part, Parts};
+use crate::effect::Effect;
+use crate::part::{Kept, Part};
 use std::alloc::Global;
 use std::marker::Model;
 
@@ -86,14 +87,14 @@ impl Touched {
         }
     }
 
-    /// The variables that these parts are of may have changed, too.
-    pub fn touch_all(&mut self, parts: &Parts)
-        ensures { spec.TouchesToo (spec.variables_of parts.now) self.old self.new }
+    /// The variables that a step wrote may have changed, too.
+    pub fn touch_all(&mut self, effect: &Effect)
+        ensures { spec.TouchesToo (spec.variables_of effect.now.wrote) self.old self.new }
     {
         if self.any {
             return;
         }
-        match parts.kept() {
+        match effect.wrote() {
             Kept::One(part) => self.touch(part.variable()),
             Kept::Many(parts) => self.touch_each(parts),
         }

@@ -15,10 +15,10 @@ returns-clause-front c =
     on_err_weaker c.put_strobes.result
     (λ front.
     subst (λ (b : Bool). HasFront old (shown c.args.effect.now.shown ++ (if b then lines else [])) c.put_strobes.new.items.items) (sym due)
-    (behind_first old (shown c.args.effect.now.shown) lines c.match-effect.items.items c.put_strobes.new.items.items
-    (elim c.match-effect.branch [
-      | in-Some+in_ok-put_shown w ↦ ap (λ v. v.items) w.items-is ∙ w.in_ok-put_shown.ensures.ok ∙ ap (λ one. old ++ shown one) (sym w.in-Some.is)
-      | in_default w ↦ ap (λ v. v.items) w.items-is ∙ sym (append-nil old) ∙ ap (λ one. old ++ shown one) (sym w.in_default.is)
+    (behind_first old (shown c.args.effect.now.shown) lines c.match-shown.items.items c.put_strobes.new.items.items
+    (elim c.match-shown.branch [
+      | in-Some+in_ok-put_shown w ↦ ap (λ v. v.items) w.items-is ∙ w.in_ok-put_shown.ensures.ok ∙ ap (λ one. old ++ shown one) (sym w.in-Some.is ∙ c.shown.ensures)
+      | in_default w ↦ ap (λ v. v.items) w.items-is ∙ sym (append-nil old) ∙ ap (λ one. old ++ shown one) (sym w.in_default.is ∙ c.shown.ensures)
     ])
     front))
     c.put_strobes.ensures.front
