@@ -19,16 +19,19 @@ use Rattle.vmodel.specs.declared.process.Frame.{Frame}
 use Rattle.vmodel.specs.Holding.{held_after}
 use Rattle.vmodel.specs.Inner.{variable_of}
 use Rattle.vmodel.specs.InnerStep.{step_result, transition_to}
-use Rattle.vmodel.specs.Parts.{value_in, with_parts}
+use Rattle.vmodel.specs.Parts.{value_in, write, with_parts}
 use Rattle.vmodel.specs.Printed.{printed_after}
 use Rattle.vmodel.specs.State.{State}
 use Rattle.vmodel.specs.Step.{StepResult, place_of, execute_at, complete, no_transition, environment_of, with_moves_by, with_advance, with_lines_after, items_of}
-use Rattle.vmodel.specs.Waking.{hears}
+use Rattle.vmodel.specs.Waking.{hears, is_edge}
+use Rattle.vmodel.specs.InnerWaking.{Differ}
+use Rattle.vmodel.specs.declared.values.Change.{Change as ValueChange}
+use Rattle.vmodel.proofs.WakingLemmas.{edge_none}
 use Rattle.vcompile.specs.Laws.{turns_behind, with_edge}
 use Rattle.vflat.specs.declared.flat_step.News.{News}
 use Rattle.vflat.specs.declared.flat_step.News.TheVariants.{Changed, Triggered}
-use Rattle.vflat.specs.Flat.{Flat, FlatTransition, point_in, held_by, wakes_listener, with_resumed, frame_at, with_listeners, terms_told, told_of_event, flat_woken, comes_to, flat_placed, step_alone, flat_after, flat_updated, flat_action, flat_frame, flat_transition_of, flat_viewed, rest_of, with_rest}
-use Rattle.vflat.specs.InnerFlat.{is_heard, woken_of, with_woken, heard_by, told_of, place_process, finish, with_left, action_there, held_view, flat_to}
+use Rattle.vflat.specs.Flat.{Flat, FlatTransition, point_in, held_by, wakes_listener, with_resumed, frame_at, Woken, with_listener, with_listeners, terms_told, told_of_event, flat_woken, comes_to, flat_placed, step_alone, flat_after, flat_updated, flat_action, flat_frame, flat_transition_of, flat_viewed, rest_of, with_rest}
+use Rattle.vflat.specs.InnerFlat.{is_heard, woken_of, with_woken, heard_by, told_of, write_and_wake, place_process, finish, with_left, action_there, held_view, flat_to}
 use Rattle.vflat.proofs.PointLemmas.{hears_itself}
 
 -- ---- waking
@@ -67,6 +70,42 @@ pub told_next : (code : Code) (parts : List Part) (triggered : Option ℕ) (part
     told_of code parts triggered (terms_told (part ∷ more) triggered) f
     ≡ told_of code parts triggered (terms_told more triggered) (told_of code parts triggered (Change Any (variable_of part) ∷ []) f)
 told_next code parts triggered part more f = refl
+
+-- where nothing is heard nobody wakes
+nobody_wakes : (code : Code) (turns : List ℕ) (heard : Edge → Bool) (ls : List Listener) (w : Woken) → ((edge : Edge) → heard edge ≡ false) →
+    with_listeners code turns heard ls w ≡ w
+nobody_wakes code turns heard [] w none = refl
+nobody_wakes code turns heard (l ∷ ls) w none =
+    ap (λ b. with_listeners code turns heard ls (with_listener code turns b l w)) (none l.edge) ∙ nobody_wakes code turns heard ls w none
+
+-- the same flat state with a part written
+abbrev with_part : Part → Flat → Flat
+with_part part f = record f { rest = record f.rest { values = write part f.rest.values } }
+
+pub wrote_nothing : (code : Code) (part : Part) (f : Flat) → f.rest.values ≡ write part f.rest.values → with_part part f ≡ write_and_wake code (part ∷ []) None f
+wrote_nothing code part f same = ap (λ (w : Woken). with_woken w (with_part part f)) (sym (nobody_wakes code f.turns heard listeners (woken_of (with_part part f)) quiet))
+  where
+    n : ℕ
+    n = variable_of part
+
+    listeners : List Listener
+    listeners = listeners_at code.by_variable n
+
+    heard : Edge → Bool
+    heard edge = is_edge edge (value_in f.rest.values n) (value_in (write part f.rest.values) n)
+
+    quiet : (edge : Edge) → heard edge ≡ false
+    quiet edge = edge_none edge (value_in f.rest.values n) (value_in (write part f.rest.values) n) (ap (λ vs. value_in vs n) same)
+
+pub wrote_one : (code : Code) (part : Part) (change : ValueChange) (f : Flat) → change.variable ≡ variable_of part → Differ change f.rest.values (write part f.rest.values) →
+    heard_by code (Changed change.old change.new) (listeners_at code.by_variable change.variable) (with_part part f) ≡ write_and_wake code (part ∷ []) None f
+wrote_one code part change f same d =
+    ap (λ v. woken (λ edge. is_edge edge v change.new) change.variable) (sym d.old)
+    ∙ ap (λ v. woken (λ edge. is_edge edge (value_in f.rest.values change.variable) v) change.variable) (sym d.new)
+    ∙ ap (λ n. woken (λ edge. is_edge edge (value_in f.rest.values n) (value_in (write part f.rest.values) n)) n) same
+  where
+    woken : (Edge → Bool) → ℕ → Flat
+    woken heard n = with_woken (with_listeners code f.turns heard (listeners_at code.by_variable n) (woken_of (with_part part f))) (with_part part f)
 
 -- ---- a step of a process
 

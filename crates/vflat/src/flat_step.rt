@@ -1,6 +1,6 @@
 // The step of a flat state (IEEE 1364-2005, 11.3, 11.4): a process goes on by the code of the design, and who waits wakes by its lists.
 
-ghost use Rattle.std.specs.Prelude.{◌≡◌, ◌<◌, ℕ, List, [], ◌∷◌, Option, length, slice_set, true, IfOk, OnOk, OnErr};
+ghost use Rattle.std.specs.Prelude.{◌≡◌, ◌<◌, ℕ, List, [], ◌∷◌, Option, None, length, slice_set, true, IfOk, OnOk, OnErr};
 ghost use Rattle.std.specs.Option.{ForSome};
 ghost use Rattle.vcompile.specs.Laws.{turns_behind};
 ghost use Rattle.vdesign.specs.declared.action.Edge.TheVariants.{Any};
@@ -288,13 +288,32 @@ impl Flat {
         self.rest.write_parts(parts);
     }
 
+    // One part is written, and those wake who wait for what it changes.
+    #[tactic(auto, using(crate::proofs::FlatLemmas::wrote_nothing, crate::proofs::FlatLemmas::wrote_one))]
+    fn write_one(&mut self, code: &Code, part: Part)
+        ensures { self.new ≡ write_and_wake code.now (part ∷ []) None self.old }
+    {
+        let Some(change) = self.rest.write_part(part) else {
+            return;
+        };
+        let news = News::Changed {
+            old: change.old,
+            new: change.new,
+        };
+        let listeners = code.heard_by_variable(change.variable as usize);
+        self.wake_each(code, &news, listeners);
+    }
+
     // The same of what a step wrote.
     fn write(&mut self, code: &Code, effect: &Effect)
         ensures { self.new ≡ write_and_wake code.now effect.now.wrote effect.now.triggered self.old }
     {
         let triggered = effect.triggered();
         match effect.wrote() {
-            Kept::One(part) => self.write_parts(code, &[part], triggered),
+            Kept::One(part) => match triggered {
+                None => self.write_one(code, part),
+                Some(_) => self.write_parts(code, &[part], triggered),
+            },
             Kept::Many(parts) => self.write_parts(code, parts, triggered),
         }
     }

@@ -1,9 +1,10 @@
 // A step in pieces, for who keeps processes in another way: what becomes of a state but for its processes (IEEE 1364-2005, 11.3, 11.4).
 
-ghost use Rattle.std.specs.Prelude.{◌≡◌, ◌<◌, ◌==◌, length, option_map, OnOk, OnErr};
+ghost use Rattle.std.specs.Prelude.{◌≡◌, ◌<◌, ◌==◌, length, option_map, IfSome, OnOk, OnErr};
 ghost use Rattle.std.specs.Option.{ForSome};
 ghost use Rattle.vmodel.specs.Choices.{IsWithin};
 ghost use Rattle.vmodel.specs.Holding.{held_with as held_with_of, release as released_of};
+ghost use Rattle.vmodel.specs.Inner.{variable_of};
 ghost use Rattle.vmodel.specs.InnerWaking.{IsChange, with_active};
 ghost use Rattle.vmodel.specs.Parts.{write, with_parts};
 ghost use Rattle.vmodel.specs.Printed.{lines_before};
@@ -51,6 +52,7 @@ impl State {
     pub fn write_part(&mut self, part: Part) -> Option<Change>
         ensures values { self.new ≡ record self.old { values = write part self.old.values } }
         ensures change { IsChange result self.old.values self.new.values }
+        ensures variable { IfSome result (λ c. c.variable ≡ variable_of part) }
     {
         self.values.write(part)
     }

@@ -1,11 +1,11 @@
 // The values of all variables, by number (IEEE 1364-2005, 4.2).
 
-ghost use Rattle.std.specs.Prelude.{◌≡◌, ◌≤◌, List, slice_set, IfOk, OnOk, Some, map};
+ghost use Rattle.std.specs.Prelude.{◌≡◌, ◌≤◌, List, slice_set, IfOk, OnOk, IfSome, Some, map};
 ghost use Rattle.vbits.specs.Vectors.{Vector};
 ghost use Rattle.vmodel.specs.Parts as spec;
 ghost use Rattle.vmodel.specs.Run.{opening_value};
 ghost use Rattle.vmodel.specs.InnerWaking.{IsChange};
-ghost use Rattle.vmodel.specs.Inner.{value_over, over_one};
+ghost use Rattle.vmodel.specs.Inner.{value_over, over_one, variable_of};
 ghost use Rattle.vmodel.specs.Touched.{ChangesOnly, TakesOver};
 
 use crate::part::Part;
@@ -219,6 +219,7 @@ impl Values {
     pub(crate) fn write(&mut self, part: Part) -> Option<Change>
         ensures values { self.new ≡ spec.write part self.old }
         ensures change { IsChange result self.old self.new }
+        ensures variable { IfSome result (λ c. c.variable ≡ variable_of part) }
     {
         let variable = part.variable();
         let old = value_in(&self.list, variable);
@@ -229,6 +230,7 @@ impl Values {
     fn set(&mut self, variable: u32, new: Vec4) -> Option<Change>
         ensures values { self.new ≡ slice_set self.old variable new }
         ensures change { IsChange result self.old self.new }
+        ensures variable { IfSome result (λ c. c.variable ≡ variable) }
     {
         if variable as usize >= self.list.len() {
             return None;
