@@ -187,7 +187,7 @@ no_held_by f i c x none is = λ k. record x { flat = record x.flat { rest = reco
     kept : held_after f.rest.held_back f.rest.queue i c x.flat.rest.queue ≡ x.flat.rest.held_back
     kept = ap (λ (o : Option (List ℕ)). held_after o f.rest.queue i c x.flat.rest.queue) none ∙ sym (is ∙ none)
 
-pub no_held : (design : Design) (code : Code) (f : Flat) (i : ℕ) (c : Choice) (y : FlatTransition) → f.rest.held_back ≡ None →
+no_held : (design : Design) (code : Code) (f : Flat) (i : ℕ) (c : Choice) (y : FlatTransition) → f.rest.held_back ≡ None →
     flat_transition_of design code c f ≡ y → held_view f i c (flat_transition_of design code c f) ≡ y
 no_held design code f i c y none is = no_held_by f i c (flat_transition_of design code c f) none (step_holds design code c f) ∙ is
 
@@ -203,6 +203,11 @@ pub no_lines : (design : Design) (code : Code) (f : Flat) (i : ℕ) (c : Choice)
     held_view f i c (flat_transition_of design code c f) ≡ y → flat_viewed design f i c (flat_transition_of design code c f) ≡ y
 no_lines design code f i c y none is =
     no_lines_by design f c (held_view f i c (flat_transition_of design code c f)) f.rest.printed none (step_prints design code c f) ∙ is
+
+-- a step where departures only take and no lines are looked at
+pub plain_step : (design : Design) (code : Code) (f : Flat) (i : ℕ) (c : Choice) (y : FlatTransition) → f.rest.held_back ≡ None → f.rest.printed ≡ None →
+    flat_transition_of design code c f ≡ y → flat_viewed design f i c (flat_transition_of design code c f) ≡ y
+plain_step design code f i c y none unseen is = no_lines design code f i c y unseen (no_held design code f i c y none is)
 
 -- with the lines of the step
 pub with_lines_too : (design : Design) (code : Code) (f : Flat) (i : ℕ) (c : Choice) (after : Flat) (rest : State) (effect : Effect) (monitors : List ℕ) →

@@ -453,7 +453,6 @@ impl Flat {
     }
 
     // The same of choice `i`, which is this one, with what is held back from now on.
-    #[tactic(auto, using(crate::proofs::FlatLemmas::no_held))]
     fn take_holding(
         &mut self,
         design: &Design,
@@ -469,15 +468,10 @@ impl Flat {
         ensures err { OnErr result (self.new ≡ self.old) }
         ensures err_monitors { OnErr result (monitors.new.items ≡ monitors.old.items) }
     {
-        match self.rest.held_back() {
-            None => self.take(design, code, choice, effect, monitors),
-            Some(_) => {
-                let held = self.rest.held_with(i, choice);
-                self.take(design, code, choice, effect, monitors)?;
-                self.rest.hold(held);
-                Ok(())
-            }
-        }
+        let held = self.rest.held_with(i, choice);
+        self.take(design, code, choice, effect, monitors)?;
+        self.rest.hold(held);
+        Ok(())
     }
 
     // Whether the choice is of a process that comes to a print task.
@@ -552,8 +546,35 @@ impl Flat {
         Ok(())
     }
 
-    /// The step of choice `i`, in place, as `State::step_into` has it.
+    // The step of choice `i`, which is this one, where departures may hold back or lines are looked at.
     #[tactic(auto, using(crate::proofs::FlatLemmas::no_lines))]
+    #[inline(never)]
+    fn take_viewed(
+        &mut self,
+        design: &Design,
+        code: &Code,
+        i: u32,
+        choice: Choice,
+        effect: &mut Effect,
+        monitors: &mut Vec<usize>,
+    ) -> Result<(), NoMemory>
+        requires { IsWithin choice }
+        ensures ok { OnOk result (flat_viewed design.now self.old i choice (flat_transition_of design.now code.now choice self.old)
+            ≡ flat_to self.new effect.new monitors.new.items) }
+        ensures err { OnErr result (self.new ≡ self.old) }
+        ensures err_monitors { OnErr result (monitors.new.items ≡ monitors.old.items) }
+    {
+        match self.rest.printed() {
+            None => self.take_holding(design, code, i, choice, effect, monitors),
+            Some(_) if self.is_silent(design, code, choice) => {
+                self.take_silent(design, code, i, choice, effect, monitors)
+            }
+            Some(_) => self.take_printing(design, code, i, choice, effect, monitors),
+        }
+    }
+
+    /// The step of choice `i`, in place, as `State::step_into` has it.
+    #[tactic(auto, using(crate::proofs::FlatLemmas::plain_step))]
     pub fn step_into(
         &mut self,
         design: &Design,
@@ -570,12 +591,9 @@ impl Flat {
             self.rest.stay(effect, monitors);
             return Ok(());
         };
-        match self.rest.printed() {
-            None => self.take_holding(design, code, i, choice, effect, monitors),
-            Some(_) if self.is_silent(design, code, choice) => {
-                self.take_silent(design, code, i, choice, effect, monitors)
-            }
-            Some(_) => self.take_printing(design, code, i, choice, effect, monitors),
+        match (self.rest.held_back(), self.rest.printed()) {
+            (None, None) => self.take(design, code, choice, effect, monitors),
+            _ => self.take_viewed(design, code, i, choice, effect, monitors),
         }
     }
 
