@@ -1,0 +1,5 @@
+mod DigestLemmas
+mod PlaceLemmas
+mod MarkLemmas
+mod QueueLemmas
+mod LawLemmas
