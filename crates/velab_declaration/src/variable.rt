@@ -327,7 +327,7 @@ fn type_signed(port: &PortForm<'_>) -> bool
     };
     match port.again {
         None => signed,
-        Some(second) => signed || second.kind.signed,
+        Some(second) => signed || second.sign_and_range.signed,
     }
 }
 
@@ -372,7 +372,7 @@ fn whole_bounds(
     match again {
         None => Ok(bounds),
         Some(second) => {
-            let other = range_bounds(alloc, scope, tokens, &second.kind.range)?;
+            let other = range_bounds(alloc, scope, tokens, &second.sign_and_range.range)?;
             if same_bounds(bounds, other) {
                 Ok(bounds)
             } else {

@@ -1,11 +1,11 @@
 -- Letters of parts: how many there are, and which.
-use Rattle.std.proofs.Common.{◌≡◌, ◌≢◌, ℕ, zero, suc, ◌+◌, ◌-◌, ◌≤◌, ◌<◌, ◌==◌, min, nat_le, Bool, true, false, cond, List, [], ◌∷◌, ◌++◌, length, take, drop, get_or, Some, refl, sym, ap, ◌∙◌, arith}
+use Rattle.std.proofs.Common.{◌≡◌, ◌≢◌, ℕ, zero, suc, ◌+◌, ◌-◌, ◌≤◌, ◌<◌, ◌==◌, min, max, nat_le, replicate, Bool, true, false, cond, List, [], ◌∷◌, ◌++◌, length, take, drop, get_or, Some, refl, sym, ap, ◌∙◌, arith}
 use Rattle.std.specs.Prelude.{slice_get, slice_set}
 use Rattle.std.proofs.lemmas.Bool.Decides.{nat_tests}
 use Rattle.std.proofs.lemmas.List.{append-nil, append_assoc, length-set}
 use Rattle.vbits.specs.declared.bit4.Bit4.{Bit4}
 use Rattle.vbits.specs.declared.bit4.Bit4.TheVariants.{X}
-use Rattle.vbits.specs.Vectors.{Vector, filled, with_sign, resize, select, put}
+use Rattle.vbits.specs.Vectors.{Vector, filled, with_sign, resize, sign_letter, select, put}
 use Rattle.vdesign.specs.Expressions.{ExpressionTree}
 use Rattle.vdesign.specs.declared.action.Target.{Target}
 use Rattle.vdesign.specs.declared.action.Target.TheVariants.{Whole as WholeTarget}
@@ -15,7 +15,7 @@ use Rattle.vvalue.proofs.Lengths.{right_side_length, resized_length}
 use Rattle.vmodel.specs.declared.part.Part.{Part}
 use Rattle.vmodel.specs.declared.part.Part.TheVariants.{Whole, Bits}
 use Rattle.vmodel.specs.Parts.{value_in, with_bits, write, with_parts}
-use Rattle.vmodel.specs.Value.{some_bits, bits_from, parts_of, shared_parts, assigned_parts, resumed_parts}
+use Rattle.vmodel.specs.Value.{some_bits, bits_from, parts_of, shared_parts, assigned_parts, held_value, resumed_parts}
 use Rattle.vmodel.specs.Inner.{variable_of, value_over, over_one, over_all}
 use Rattle.vmodel.proofs.WakingLemmas.{differ_set, other_after}
 
@@ -113,33 +113,20 @@ whole_is now n value marked old sign e mark is =
     ap (λ (v : Vector). Whole n v ∷ []) e
     ∙ ap (λ (b : Bool). Whole n (record { letters = value.letters; signed = b }) ∷ []) (mark ∙ ap (λ (v : Vector). v.signed) is)
 
-pub alone_is : (now : Environment) (target : Target) (e : ExpressionTree) (size : ℕ) (value : Vector) (parts : List Part) → size ≡ target_size now target → size ≤ 64 →
-    value ≡ right_side now size e → parts ≡ parts_of now target value.letters → parts ≡ assigned_parts now (target ∷ []) e
-alone_is now target e size value parts is le right are =
+-- one target gets a value that is cut or extended to its bits
+pub given_alone : (now : Environment) (target : Target) (held : Vector) (size : ℕ) (value : Vector) (parts : List Part) → size ≡ target_size now target → size ≤ 64 →
+    value ≡ resize held size → parts ≡ parts_of now target value.letters → parts ≡ resumed_parts now (target ∷ []) (Some held)
+given_alone now target held size value parts is le resized are =
     are ∙ fit (target_size now target + 0) (nat_le (target_size now target + 0) 64) (omega (arith, is)) (grind (arith, nat_tests))
   where
     fit : (n : ℕ) (b : Bool) → size ≡ n → b ≡ true →
-        parts_of now target value.letters ≡ cond b (parts_of now target (take (target_size now target) (right_side now n e).letters) ++ []) []
+        parts_of now target value.letters ≡ cond b (parts_of now target (take (target_size now target) (resize held n).letters) ++ []) []
     fit n false same is_true = cc
     fit n true same is_true =
-        ap (parts_of now target) (ap (λ (v : Vector). v.letters) (right ∙ ap (λ m. right_side now m e) same) ∙ sym (taken_all (target_size now target) (right_side now n e).letters (omega (arith, right_side_length now n e, is, same))))
-        ∙ sym (append-nil (parts_of now target (take (target_size now target) (right_side now n e).letters)))
+        ap (parts_of now target) (ap (λ (v : Vector). v.letters) (resized ∙ ap (resize held) same) ∙ sym (taken_all (target_size now target) (resize held n).letters (omega (arith, resized_length held n, is, same))))
+        ∙ sym (append-nil (parts_of now target (take (target_size now target) (resize held n).letters)))
 
-pub row_is : (now : Environment) (targets : List Target) (e : ExpressionTree) (size : ℕ) (value : Vector) (parts : List Part) → size ≡ targets_size now targets → size ≤ 64 →
-    value ≡ right_side now size e → parts ≡ shared_parts now targets value.letters → parts ≡ assigned_parts now targets e
-row_is now targets e size value parts is le right are =
-    are
-    ∙ ap (λ (v : Vector). shared_parts now targets v.letters) (right ∙ ap (λ n. right_side now n e) is)
-    ∙ chosen (nat_le (targets_size now targets) 64) (grind (arith, nat_tests))
-  where
-    all : List Part
-    all = shared_parts now targets (right_side now (targets_size now targets) e).letters
-
-    chosen : (b : Bool) → b ≡ true → all ≡ cond b all []
-    chosen true is_true = refl
-    chosen false is_true = cc
-
--- the same of a value that is held
+-- several targets get a value that is cut or extended to their bits together
 pub held_is : (now : Environment) (targets : List Target) (size : ℕ) (held value : Vector) (parts : List Part) → size ≡ targets_size now targets → size ≤ 64 →
     value ≡ resize held size → parts ≡ shared_parts now targets value.letters → parts ≡ resumed_parts now targets (Some held)
 held_is now targets size held value parts is le resized are =
@@ -168,19 +155,41 @@ pub held_length : (now : Environment) (targets : List Target) (size : ℕ) (held
     value ≡ resize held size → length value.letters ≡ targets_size now targets
 held_length now targets size held value is resized = ap (λ (v : Vector). length v.letters) resized ∙ resized_length held size ∙ is
 
-pub none_is : (now : Environment) (targets : List Target) (e : ExpressionTree) → 64 < targets_size now targets → [] ≡ assigned_parts now targets e
-none_is now targets e lt = chosen (nat_le (targets_size now targets) 64) (grind (arith, nat_tests))
+-- ---- an assignment gives its targets the value of its right side
+
+taken_front : (n : ℕ) (xs ys : List Bit4) → length xs ≡ n → take n (xs ++ ys) ≡ xs
+taken_front zero [] ys is = refl
+taken_front zero (x ∷ xs) ys is = absurd (omega (arith, is))
+taken_front (suc n) [] ys is = absurd (omega (arith, is))
+taken_front (suc n) (x ∷ xs) ys is = ap (λ zs. x ∷ zs) (taken_front n xs ys (omega (arith, is)))
+
+-- a value of as many bits stays
+stays : (v : Vector) (n : ℕ) → length v.letters ≡ n → (resize v n).letters ≡ v.letters
+unfolding resize
+stays v n is = taken_front n v.letters (replicate n (sign_letter v)) is
+
+side_stays : (now : Environment) (e : ExpressionTree) (size : ℕ) → nat_le size 64 ≡ true →
+    (resize (right_side now (max 1 (min 64 size)) e) size).letters ≡ (right_side now size e).letters
+side_stays now e zero few = nothing (resize (right_side now (max 1 (min 64 0)) e) 0).letters (resized_length (right_side now (max 1 (min 64 0)) e) 0)
+    ∙ sym (nothing (right_side now 0 e).letters (right_side_length now 0 e))
   where
-    all : List Part
-    all = shared_parts now targets (right_side now (targets_size now targets) e).letters
+    nothing : (xs : List Bit4) → length xs ≡ 0 → xs ≡ []
+    nothing [] is = refl
+    nothing (x ∷ xs) is = absurd (omega (arith, is))
+side_stays now e (suc n) few =
+    let same : max 1 (min 64 (suc n)) ≡ suc n = grind (arith, nat_tests) in
+    ap (λ k. (resize (right_side now k e) (suc n)).letters) same ∙ stays (right_side now (suc n) e) (suc n) (right_side_length now (suc n) e)
 
-    chosen : (b : Bool) → b ≡ false → [] ≡ cond b all []
-    chosen false is_false = refl
-    chosen true is_false = cc
-
-pub row_length : (now : Environment) (targets : List Target) (e : ExpressionTree) (size : ℕ) (value : Vector) → size ≡ targets_size now targets →
-    value ≡ right_side now size e → length value.letters ≡ targets_size now targets
-row_length now targets e size value is right = ap (λ (v : Vector). length v.letters) right ∙ right_side_length now size e ∙ is
+pub held_assigned : (now : Environment) (targets : List Target) (e : ExpressionTree) (value : Vector) → value ≡ held_value now targets e →
+    resumed_parts now targets (Some value) ≡ assigned_parts now targets e
+held_assigned now targets e value is =
+    ap (λ v. resumed_parts now targets (Some v)) is ∙ by (nat_le (targets_size now targets) 64) refl
+  where
+    by : (b : Bool) → nat_le (targets_size now targets) 64 ≡ b →
+        cond b (shared_parts now targets (resize (held_value now targets e) (targets_size now targets)).letters) []
+        ≡ cond b (shared_parts now targets (right_side now (targets_size now targets) e).letters) []
+    by true few = ap (shared_parts now targets) (side_stays now e (targets_size now targets) few)
+    by false few = refl
 
 pub drop_at : (i : ℕ) (targets : List Target) (target : Target) → target ≡ get_or targets i target → i < length targets →
     drop i targets ≡ target ∷ drop (i + 1) targets

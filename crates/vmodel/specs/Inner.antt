@@ -1,5 +1,5 @@
 -- *internal*: How the program keeps what the definitions see as lists: words for the contracts of parts within.
-use Rattle.std.specs.Prelude.{◌≡◌, ◌==◌, ℕ, zero, suc, ◌+◌, ◌-◌, if◌then◌else◌, nat_lt, List, [], ◌∷◌, length, take, Option, Some, None}
+use Rattle.std.specs.Prelude.{◌≡◌, ◌==◌, ℕ, zero, suc, ◌+◌, if◌then◌else◌, nat_lt, List, [], ◌∷◌, Option, Some, None}
 use Rattle.vmodel.specs.declared.part.Part.{Part}
 use Rattle.vmodel.specs.declared.part.Part.TheVariants.{Whole, Bits}
 use Rattle.vbits.specs.Vectors.{Vector}
@@ -67,10 +67,6 @@ NoneIs P None = Unit {0}
 NoneIs P (Some e) = ¬ P e
 
 -- ---- the queue
-
--- the last monitor event is taken back
-abbrev pub without_last_strobe : Queue → Queue
-without_last_strobe q = record q { strobes = take (length q.strobes - 1) q.strobes }
 
 -- ---- what is held back, and what is printed
 

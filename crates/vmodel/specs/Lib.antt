@@ -10,6 +10,7 @@ pub mod Choices
 pub mod Holding
 pub mod Printed
 pub mod History
+pub mod Operands
 pub mod Effects
 pub mod InnerEffect
 pub mod Step

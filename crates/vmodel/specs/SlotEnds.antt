@@ -4,7 +4,8 @@ use Rattle.vbits.specs.Vectors.{Vector}
 use Rattle.vmodel.specs.Queue.{Queue}
 use Rattle.vmodel.specs.State.{State}
 
--- nothing is active, no process and no update; then nothing waits in another region of this time either ([kept] of `run_law`)
+-- nothing is active, no process and no update. In a state of a run that goes on, nothing waits in another region of this time either then
+-- ([kept] of `run_law`)
 abbrev pub IsIdle : Queue → Type 0
 IsIdle q = (q.active ≡ []) × (q.activated ≡ [])
 

@@ -1,18 +1,20 @@
 // What a step of a process does (IEEE 1364-2005, clause 9): its disposition, what it writes, posts, shows, and whether it ends the run.
 
 ghost use Rattle.std.specs.Prelude.{◌≡◌, [], ℕ, List, cond, IfOk, OnOk, option_map};
-ghost use Rattle.vvalue.specs.Value.{holds as holds_at, delay_of as delay_at};
+ghost use Rattle.std.specs.Option.{ForSome};
+ghost use Rattle.vvalue.specs.Value.{delay_of as delay_at};
 ghost use Rattle.vmodel.specs.declared.process.Frame.{Frame};
 ghost use Rattle.vmodel.specs.Effects.{no_effect};
 ghost use Rattle.vmodel.specs.Inner.{kept_parts};
 ghost use Rattle.vmodel.specs.Step as spec;
-ghost use Rattle.vmodel.specs.Value.{assigned_parts as assigned_at, held_value as held_at, resumed_parts as resumed_at};
+ghost use Rattle.vmodel.specs.Operands.{operand as operand_at};
+ghost use Rattle.vmodel.specs.Value.{resumed_parts as resumed_at};
 ghost use Rattle.vmodel.specs.Step.{execute, execute_at};
 ghost use Rattle.vmodel.specs.InnerStep.{wait_result, behind, step_result, effect_of_end, while_result};
 
 use crate::part::{Kept, Parts};
 use crate::process::Frame;
-use crate::value::{assigned_parts, held_value, resumed_parts};
+use crate::value::{given_parts, held_value, resumed_parts};
 use basis::NoMemory;
 use sched_core::end::Cause;
 use std::alloc::Global;
@@ -22,8 +24,8 @@ use vdesign::action::{Action, Places, Target, Targets};
 use vdesign::dump::{DumpCommand, DumpSwitch};
 use vdesign::expression::Expression;
 use vdesign::print::When;
-use vvalue::asked::{delay_of, holds};
-use vvalue::cases::{places_of_case, turns_of};
+use vvalue::asked::{delay_by, delay_of, is_true, self_determined_value};
+use vvalue::cases::{places_of_case, turns_by};
 use vvalue::environment::Environment;
 
 /// What becomes of a process by its step.
@@ -340,39 +342,25 @@ fn turns_first<'d>(place: usize, next: &'d [usize], turns: u64) -> Course<'d>
     }
 }
 
-// What a `while` does (9.6).
-fn while_of<'d>(
-    place: usize,
-    condition: &Expression,
-    body: &'d Places,
-    environment: &Environment<'_>,
-    effect: &mut Effect,
-) -> Course<'d>
+// What a `while` does whose condition holds, or doesn't (9.6).
+fn while_of<'d>(place: usize, holds: bool, body: &'d Places, effect: &mut Effect) -> Course<'d>
     ensures { (after : List Frame) →
-        while_result place (holds_at environment.now condition.now) body.now after
-        ≡ step_result result.then result.next.now after effect.new }
+        while_result place holds body.now after ≡ step_result result.then result.next.now after effect.new }
 {
     effect.reset();
-    if holds(condition, environment) {
+    if holds {
         comes_again(place, body.as_slice())
     } else {
         goes_to(&[])
     }
 }
 
-// What a `wait` does (9.7.6).
-fn wait_of<'d>(
-    place: usize,
-    condition: &Expression,
-    body: &'d Places,
-    environment: &Environment<'_>,
-    effect: &mut Effect,
-) -> Course<'d>
+// What a `wait` does whose condition holds, or doesn't (9.7.6).
+fn wait_of<'d>(place: usize, holds: bool, body: &'d Places, effect: &mut Effect) -> Course<'d>
     ensures { (after : List Frame) →
-        wait_result place (holds_at environment.now condition.now) body.now after
-        ≡ step_result result.then result.next.now after effect.new }
+        wait_result place holds body.now after ≡ step_result result.then result.next.now after effect.new }
 {
-    if holds(condition, environment) {
+    if holds {
         effect.reset();
         return goes_to(body.as_slice());
     }
@@ -380,16 +368,11 @@ fn wait_of<'d>(
     comes_again(place, &[])
 }
 
-// The branch of an `if` that comes next (9.4).
-fn branch_of<'d>(
-    condition: &Expression,
-    when_true: &'d Places,
-    otherwise: &'d Places,
-    environment: &Environment<'_>,
-) -> &'d [usize]
-    ensures { result.now ≡ cond (holds_at environment.now condition.now) when_true.now otherwise.now }
+// The branch of an `if` that comes next, whose condition holds, or doesn't (9.4).
+fn branch_of<'d>(holds: bool, when_true: &'d Places, otherwise: &'d Places) -> &'d [usize]
+    ensures { result.now ≡ cond holds when_true.now otherwise.now }
 {
-    if holds(condition, environment) {
+    if holds {
         when_true.as_slice()
     } else {
         otherwise.as_slice()
@@ -406,102 +389,127 @@ fn continuous_assign_of<'d>(place: usize, parts: Parts, effect: &mut Effect) -> 
     comes_again(place, &[])
 }
 
-// What an assignment does (9.2.1).
+// What an assignment of a value does (9.2.1).
 fn assign_of<'d>(
     alloc: Global,
     targets: &Targets,
-    value: &Expression,
+    value: Vec4,
     environment: &Environment<'_>,
     effect: &mut Effect,
 ) -> Result<Course<'d>, NoMemory>
     ensures next { IfOk result (λ course. course.next.now ≡ []) }
     ensures then { IfOk result (λ course. course.then ≡ None) }
     ensures effect { OnOk result
-        (effect.new ≡ record no_effect { wrote = assigned_at environment.now targets.now value.now }) }
+        (effect.new ≡ record no_effect { wrote = resumed_at environment.now targets.now (Some value) }) }
 {
-    effect.write(assigned_parts(alloc, targets, value, environment)?);
+    effect.write(given_parts(alloc, targets, value, environment)?);
     Ok(goes_to(&[]))
 }
 
-// What a nonblocking assignment does that is written so much later (9.2.2, 9.7.7).
+// What a nonblocking assignment of a value does that is written so much later (9.2.2, 9.7.7).
 fn post_of<'d>(
     alloc: Global,
     delay: u128,
     targets: &Targets,
-    value: &Expression,
+    value: Vec4,
     environment: &Environment<'_>,
     effect: &mut Effect,
 ) -> Result<Course<'d>, NoMemory>
     ensures next { IfOk result (λ course. course.next.now ≡ []) }
     ensures then { IfOk result (λ course. course.then ≡ None) }
     ensures effect { OnOk result (effect.new ≡ record no_effect {
-      posted = Some (spec.post_after delay (assigned_at environment.now targets.now value.now));
+      posted = Some (spec.post_after delay (resumed_at environment.now targets.now (Some value)));
     }) }
 {
-    effect.post(delay, assigned_parts(alloc, targets, value, environment)?);
+    effect.post(delay, given_parts(alloc, targets, value, environment)?);
     Ok(goes_to(&[]))
 }
 
-// What a suspended assignment does first (9.7.7): it takes its value, and sleeps before it writes.
+// What a suspended assignment of a value does first (9.7.7): it sleeps before it writes.
 fn assign_delayed_of<'d>(
     place: usize,
     amount: &Expression,
-    targets: &Targets,
-    value: &Expression,
+    value: Vec4,
     environment: &Environment<'_>,
     effect: &mut Effect,
 ) -> Course<'d>
     ensures next { result.next.now ≡ [] }
     ensures then { result.then ≡ Some (Frame.Writing place) }
     ensures effect { effect.new ≡ record no_effect {
-      held = Some (held_at environment.now targets.now value.now);
+      held = Some value;
       disposition = Disposition.Delayed (delay_at environment.now amount.now);
     } }
 {
-    let held = held_value(targets, value, environment);
-    effect.hold(held, delay_of(amount, environment));
+    effect.hold(value, delay_of(amount, environment));
     Course {
         next: &[],
         then: Some(Frame::Writing(place)),
     }
 }
 
-/// What the action of this place does at this moment. E901 is the only refusal.
+/// The operand of an action: the value of the expression that its step evaluates first. Of an assignment that is its right side, at the
+/// bits of its targets; a condition, a count and an amount stand by themselves. It is x, where there is none.
+pub fn operand_of(action: &Action, environment: &Environment<'_>) -> Vec4
+    ensures { result ≡ operand_at environment.now action.now }
+{
+    match action {
+        Action::Assign { targets, value } => held_value(targets, value, environment),
+        Action::Nonblocking { targets, value } => held_value(targets, value, environment),
+        Action::AssignDelayed { targets, value, .. } => held_value(targets, value, environment),
+        Action::NonblockingDelayed { targets, value, .. } => {
+            held_value(targets, value, environment)
+        }
+        Action::ContinuousAssign { targets, value, .. } => held_value(targets, value, environment),
+        Action::Test { condition, .. } => self_determined_value(condition, environment),
+        Action::While { condition, .. } => self_determined_value(condition, environment),
+        Action::Wait { condition, .. } => self_determined_value(condition, environment),
+        Action::Repeat { count, .. } => self_determined_value(count, environment),
+        Action::Delay { amount, .. } => self_determined_value(amount, environment),
+        _ => Vec4::all_x(1),
+    }
+}
+
+/// What the action of this place does at this moment, with its operand. E901 is the only refusal.
+#[tactic(auto, using(crate::proofs::PartLemmas::held_assigned))]
 pub fn effect_of<'d>(
     alloc: Global,
     place: usize,
     action: &'d Action,
+    operand: Vec4,
     environment: &Environment<'_>,
     effect: &mut Effect,
 ) -> Result<Course<'d>, NoMemory>
+    requires { operand ≡ operand_at environment.now action.now }
     ensures { IfOk result (λ course. (after : List Frame) →
         execute place action.now after environment.now
         ≡ step_result course.then course.next.now after effect.new) }
 {
     match action {
-        Action::Assign { targets, value } => assign_of(alloc, targets, value, environment, effect),
-        Action::Nonblocking { targets, value } => post_of(
+        Action::Assign { targets, .. } => assign_of(alloc, targets, operand, environment, effect),
+        Action::Nonblocking { targets, .. } => post_of(
             alloc,
             0,
             targets,
-            value,
+            operand,
             environment,
             effect,
         ),
-        Action::AssignDelayed {
+        Action::AssignDelayed { amount, .. } => Ok(assign_delayed_of(
+            place,
             amount,
-            targets,
-            value,
-        } => Ok(assign_delayed_of(place, amount, targets, value, environment, effect)),
+            operand,
+            environment,
+            effect,
+        )),
         Action::NonblockingDelayed {
             amount,
             targets,
-            value,
+            ..
         } => post_of(
             alloc,
             delay_of(amount, environment),
             targets,
-            value,
+            operand,
             environment,
             effect,
         ),
@@ -510,12 +518,12 @@ pub fn effect_of<'d>(
             Ok(goes_to(&[]))
         }
         Action::Test {
-            condition,
             when_true,
             otherwise,
+            ..
         } => {
             effect.reset();
-            Ok(goes_to(branch_of(condition, when_true, otherwise, environment)))
+            Ok(goes_to(branch_of(is_true(operand), when_true, otherwise)))
         }
         Action::Case {
             kind,
@@ -526,36 +534,26 @@ pub fn effect_of<'d>(
             effect.reset();
             Ok(goes_to(places_of_case(*kind, value, branches, otherwise, environment)))
         }
-        Action::While { condition, body } => Ok(while_of(
-            place,
-            condition,
-            body,
-            environment,
-            effect,
-        )),
-        Action::Repeat { count, .. } => {
+        Action::While { body, .. } => Ok(while_of(place, is_true(operand), body, effect)),
+        Action::Repeat { .. } => {
             effect.reset();
-            Ok(turns_first(place, &[], turns_of(count, environment)))
+            Ok(turns_first(place, &[], turns_by(operand)))
         }
         Action::Forever { body } => {
             effect.reset();
             Ok(comes_again(place, body.as_slice()))
         }
-        Action::Delay { amount, body } => {
-            effect.suspend(Disposition::Delayed(delay_of(amount, environment)));
+        Action::Delay { body, .. } => {
+            effect.suspend(Disposition::Delayed(delay_by(operand, environment)));
             Ok(goes_to(body.as_slice()))
         }
         Action::EventControl { body, .. } => {
             effect.suspend(Disposition::Waiting(place));
             Ok(goes_to(body.as_slice()))
         }
-        Action::Wait {
-            condition,
-            body,
-            ..
-        } => Ok(wait_of(place, condition, body, environment, effect)),
-        Action::ContinuousAssign { targets, value, .. } => {
-            let parts = assigned_parts(alloc, targets, value, environment)?;
+        Action::Wait { body, .. } => Ok(wait_of(place, is_true(operand), body, effect)),
+        Action::ContinuousAssign { targets, .. } => {
+            let parts = given_parts(alloc, targets, operand, environment)?;
             Ok(continuous_assign_of(place, parts, effect))
         }
         Action::Print { when, .. } => {
@@ -648,22 +646,31 @@ fn resume_of<'d>(
 }
 
 /// What the action that this frame is at does at this moment, with the value that the process holds: where the process goes is
-/// answered, and the effect is then what else it does. E901 is the only refusal; the effect may then be any.
+/// answered, and the effect is then what else it does. The action's operand may be known; else it is worked out where it is read. E901
+/// is the only refusal; the effect may then be any.
 #[inline(always)]
 pub fn effect_at<'d>(
     alloc: Global,
     frame: Frame,
     action: &'d Action,
     held: Option<Vec4>,
+    operand: Option<Vec4>,
     environment: &Environment<'_>,
     effect: &mut Effect,
 ) -> Result<Course<'d>, NoMemory>
+    requires { ForSome operand (λ value. value ≡ operand_at environment.now action.now) }
     ensures { IfOk result (λ course. (after : List Frame) →
         execute_at frame action.now after held environment.now
         ≡ step_result course.then course.next.now after effect.new) }
 {
     match frame {
-        Frame::Executing(place) => effect_of(alloc, place, action, environment, effect),
+        Frame::Executing(place) => {
+            let operand = match operand {
+                None => operand_of(action, environment),
+                Some(value) => value,
+            };
+            effect_of(alloc, place, action, operand, environment, effect)
+        }
         Frame::Repeating(place, turns) => Ok(turn_of(place, turns, action, effect)),
         Frame::Writing(place) => resume_of(alloc, place, action, held, environment, effect),
     }

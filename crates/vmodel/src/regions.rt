@@ -3,7 +3,7 @@
 ghost use Rattle.std.specs.Prelude.{◌≡◌, ◌<◌, ◌==◌, ◌&&◌, OnOk, OnErr, IfOk, length, slice_get, Some};
 ghost use Rattle.std.specs.Option.{ForSome};
 ghost use Rattle.vmodel.specs.Queue.{slot_with_sleeper, slot_with_update, later};
-ghost use Rattle.vmodel.specs.Inner.{time_after as time_after_of, without_last_strobe};
+ghost use Rattle.vmodel.specs.Inner.{time_after as time_after_of};
 ghost use Rattle.vmodel.specs.Step.{deactivate, with_next_step, with_delay, reschedule, posts as posts_update, with_strobe, with_queue_moves, monitors_in, without_update, with_advance};
 
 use crate::effect::{Disposition, Effect, Form, Post};

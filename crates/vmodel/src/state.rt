@@ -1,6 +1,6 @@
 // The state of a run (IEEE 1364-2005, 11.1, 11.3), as the plain step works on it.
 
-ghost use Rattle.std.specs.Prelude.{◌≡◌, length, nat_lt, slice_get, IfOk, IfSome, option_map};
+ghost use Rattle.std.specs.Prelude.{◌≡◌, length, slice_get, IfOk, IfSome, option_map};
 ghost use Rattle.std.specs.Option.{ForSome};
 ghost use Rattle.vmodel.specs.Choices.{choices as choices_of, IsWithin};
 ghost use Rattle.vmodel.specs.Holding.{held_by_choice};
@@ -114,17 +114,6 @@ impl State {
             0
         } else {
             choices::width_by(&self.held_back, &self.queue)
-        }
-    }
-
-    /// Whether there is a choice `i`; where `i` is 0, whether the run goes on.
-    pub fn has_choice(&self, i: u32) -> bool
-        ensures { result ≡ nat_lt i (length (choices_of self.now)) }
-    {
-        if i == 0 {
-            self.choice(0).is_some()
-        } else {
-            i < self.width()
         }
     }
 

@@ -329,7 +329,7 @@ impl State {
         let alloc = *self.processes.allocator();
         let held = self.held_by(number);
         let environment = self.environment(design);
-        let course = effect_at(alloc, frame, action, held, &environment, effect)?;
+        let course = effect_at(alloc, frame, action, held, None, &environment, effect)?;
         self.place(number, course.then, course.next, effect)?;
         self.finish(design, effect, monitors);
         Ok(())

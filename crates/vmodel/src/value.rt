@@ -83,12 +83,12 @@ fn part_of(target: &Target, value: Vec4, environment: &Environment<'_>) -> Optio
     }
 }
 
-// The parts that an assignment to one target writes (6.2).
-fn assigned_one(target: &Target, expression: &Expression, environment: &Environment<'_>) -> Parts
-    ensures { result ≡ spec.assigned_parts environment.now (target.now ∷ []) expression.now }
+// What one target gets of a value of any size, which is cut or extended to its bits.
+fn given_one(target: &Target, value: Vec4, environment: &Environment<'_>) -> Parts
+    ensures { result ≡ spec.resumed_parts environment.now (target.now ∷ []) (Some value) }
 {
-    let value = right_side(expression, target_size(target, environment), environment);
-    Parts::optional(part_of(target, value, environment))
+    let letters = value.resize(target_size(target, environment));
+    Parts::optional(part_of(target, letters, environment))
 }
 
 // Puts a part behind others, where there is one.
@@ -123,28 +123,7 @@ fn shared_parts(
     Ok(parts)
 }
 
-// The parts that an assignment to a concatenation of so many bits writes (5.1.14).
-#[tactic(auto, using(crate::proofs::PartLemmas::none_is, crate::proofs::PartLemmas::row_is, crate::proofs::PartLemmas::row_length))]
-fn assigned_all(
-    alloc: Global,
-    targets: &[Target],
-    size: u32,
-    expression: &Expression,
-    environment: &Environment<'_>,
-) -> Result<Parts, NoMemory>
-    requires some { 1 ≤ size }
-    requires exact { min 65 size ≡ min 65 (size_of_all environment.now targets.now) }
-    ensures { IfOk result
-        (λ parts. parts ≡ spec.assigned_parts environment.now targets.now expression.now) }
-{
-    if size > WIDEST {
-        return Ok(Parts::none());
-    }
-    let value = right_side(expression, size, environment);
-    Parts::of_list(shared_parts(alloc, targets, value, environment)?)
-}
-
-/// The value that a suspended assignment holds (9.7.7).
+/// The value of the right side of an assignment, at the bits of its targets; a suspended one holds it (5.5.3, 9.7.7).
 pub fn held_value(targets: &Targets, expression: &Expression, environment: &Environment<'_>) -> Vec4
     ensures { result ≡ spec.held_value environment.now targets.now expression.now }
 {
@@ -154,23 +133,43 @@ pub fn held_value(targets: &Targets, expression: &Expression, environment: &Envi
     right_side(expression, size, environment)
 }
 
-// The parts that it writes of the value that it holds, to targets of so many bits.
+// What several targets of so many bits together get of a value of any size (5.1.14).
 #[tactic(auto, using(crate::proofs::PartLemmas::none_held, crate::proofs::PartLemmas::held_is, crate::proofs::PartLemmas::held_length))]
-fn resumed_all(
+fn given_all(
     alloc: Global,
     targets: &[Target],
     size: u32,
-    held: Vec4,
+    value: Vec4,
     environment: &Environment<'_>,
 ) -> Result<Parts, NoMemory>
     requires some { 1 ≤ size }
     requires exact { min 65 size ≡ min 65 (size_of_all environment.now targets.now) }
-    ensures { IfOk result (λ parts. parts ≡ spec.resumed_parts environment.now targets.now (Some held)) }
+    ensures { IfOk result (λ parts. parts ≡ spec.resumed_parts environment.now targets.now (Some value)) }
 {
     if size > WIDEST {
         return Ok(Parts::none());
     }
-    Parts::of_list(shared_parts(alloc, targets, held.resize(size), environment)?)
+    Parts::of_list(shared_parts(alloc, targets, value.resize(size), environment)?)
+}
+
+/// What targets get of a value of any size, which is cut or extended to the bits of all of them (5.1.14, 6.2). E901 is the only refusal.
+pub fn given_parts(
+    alloc: Global,
+    targets: &Targets,
+    value: Vec4,
+    environment: &Environment<'_>,
+) -> Result<Parts, NoMemory>
+    ensures { IfOk result (λ parts. parts ≡ spec.resumed_parts environment.now targets.now (Some value)) }
+{
+    let targets = targets.as_slice();
+    let Some((target, more)) = targets.split_first() else {
+        return Ok(Parts::none());
+    };
+    if more.is_empty() {
+        return Ok(given_one(target, value, environment));
+    }
+    let size = target_size(target, environment) + targets_size(more, environment);
+    given_all(alloc, targets, size, value, environment)
 }
 
 /// The parts that a suspended assignment writes of the value that it holds, if it holds one, to its targets as they are now (9.7.7).
@@ -182,34 +181,8 @@ pub fn resumed_parts(
 ) -> Result<Parts, NoMemory>
     ensures { IfOk result (λ parts. parts ≡ spec.resumed_parts environment.now targets.now held) }
 {
-    let targets = targets.as_slice();
-    let Some(held) = held else {
-        return Ok(Parts::none());
-    };
-    let Some((target, more)) = targets.split_first() else {
-        return Ok(Parts::none());
-    };
-    let size = target_size(target, environment) + targets_size(more, environment);
-    resumed_all(alloc, targets, size, held, environment)
-}
-
-/// The parts that an assignment writes (6.2).
-pub fn assigned_parts(
-    alloc: Global,
-    targets: &Targets,
-    expression: &Expression,
-    environment: &Environment<'_>,
-) -> Result<Parts, NoMemory>
-    ensures { IfOk result
-        (λ parts. parts ≡ spec.assigned_parts environment.now targets.now expression.now) }
-{
-    let targets = targets.as_slice();
-    if let Some((target, more)) = targets.split_first() {
-        if more.is_empty() {
-            return Ok(assigned_one(target, expression, environment));
-        }
-        let size = target_size(target, environment) + targets_size(more, environment);
-        return assigned_all(alloc, targets, size, expression, environment);
+    match held {
+        None => Ok(Parts::none()),
+        Some(value) => given_parts(alloc, targets, value, environment),
     }
-    Ok(Parts::none())
 }

@@ -83,7 +83,7 @@ direction_of words = option_map (λ direction. direction_tree words direction.no
 
 -- what is declared besides a port
 abbrev pub second_form : List Text → SecondForm → Second
-second_form words form = record { name = word_of words form.name; net = form.net; type = type_tree words form.kind.now }
+second_form words form = record { name = word_of words form.name; net = form.net; type = type_tree words form.sign_and_range.now }
 
 -- the port of a form
 abbrev pub port_form : List Text → PortForm → Port

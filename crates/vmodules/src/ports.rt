@@ -39,7 +39,7 @@ pub enum PortKind {
 pub struct SecondForm<'u> {
     pub name: Token,
     pub net: NetKind,
-    pub kind: &'u SignAndRange,
+    pub sign_and_range: &'u SignAndRange,
 }
 
 /// A port: its name, which way it goes, what it is, its sign and range where they are written, and as what an item declares it again.
@@ -242,7 +242,7 @@ fn second_by_name<'u>(
             return Some(SecondForm {
                 name: one.name,
                 net,
-                kind,
+                sign_and_range: kind,
             });
         }
     }

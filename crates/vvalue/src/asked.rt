@@ -1,6 +1,7 @@
 // What actions ask of expressions (IEEE 1364-2005, clause 9).
 
 ghost use Rattle.std.specs.Prelude.{◌≡◌, ◌≤◌};
+ghost use Rattle.vdesign.specs.Expressions.{ExpressionTree};
 ghost use Rattle.vvalue.specs.Value as spec;
 
 use crate::environment::Environment;
@@ -21,12 +22,20 @@ pub fn self_determined_value(expression: &Expression, environment: &Environment<
     value
 }
 
-/// Whether a condition holds: its truth is 1 (9.4).
+/// Whether a condition of this value holds: its truth is 1 (9.4).
 #[tactic(auto, unfolding(crate::specs::Value::holds))]
+pub fn is_true(value: Vec4) -> bool
+    ensures { (now : spec.Environment) (condition : ExpressionTree) → value ≡ spec.self_determined_value now condition →
+        result ≡ spec.holds now condition }
+{
+    is_one(value.truth())
+}
+
+/// Whether a condition holds.
 pub fn holds(condition: &Expression, environment: &Environment<'_>) -> bool
     ensures { result ≡ spec.holds environment.now condition.now }
 {
-    is_one(self_determined_value(condition, environment).truth())
+    is_true(self_determined_value(condition, environment))
 }
 
 /// What so many bits get of an expression that is assigned to them: at the larger of both sizes, extended by its own sign and cut on
@@ -54,11 +63,18 @@ fn amount_of(value: Vec4) -> u64
     value.resize(64).to_u64().unwrap_or(0)
 }
 
-/// How long a delay lasts, in units of the precision (9.7.1, 19.8).
+/// How long a delay of this value lasts, in units of the precision (9.7.1, 19.8).
 #[tactic(auto, unfolding(crate::specs::Value::delay_of))]
+pub fn delay_by(value: Vec4, environment: &Environment<'_>) -> u128
+    ensures { (amount : ExpressionTree) → value ≡ spec.self_determined_value environment.now amount →
+        result ≡ spec.delay_of environment.now amount }
+{
+    u128::from(amount_of(value)) * u128::from(environment.factor())
+}
+
+/// How long a delay lasts.
 pub fn delay_of(amount: &Expression, environment: &Environment<'_>) -> u128
     ensures { result ≡ spec.delay_of environment.now amount.now }
 {
-    u128::from(amount_of(self_determined_value(amount, environment)))
-        * u128::from(environment.factor())
+    delay_by(self_determined_value(amount, environment), environment)
 }

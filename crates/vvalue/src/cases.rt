@@ -3,6 +3,8 @@
 ghost use Rattle.std.specs.Prelude.{◌≡◌, length};
 ghost use Rattle.vbits.specs.Letters as letters;
 ghost use Rattle.vvalue.specs.Cases as spec;
+ghost use Rattle.vvalue.specs.Value as values;
+ghost use Rattle.vdesign.specs.Expressions.{ExpressionTree};
 ghost use Rattle.vvalue.specs.Fits.{IsWithin};
 ghost use Rattle.vvalue.specs.Value.{self_determined as own_size_and_sign, value_of as value_there};
 
@@ -154,10 +156,18 @@ fn turns_in(count: Vec4) -> u64
     }
 }
 
-/// How many turns a `repeat` makes: its count by its own sign; one that is unknown is 0, and so is one below 0 (9.6).
+/// How many turns a `repeat` makes whose count has this value: by its own sign; one that is unknown is 0, and so is one below 0 (9.6).
 #[tactic(auto, unfolding(crate::specs::Cases::turns_of))]
+pub fn turns_by(value: Vec4) -> u64
+    ensures { (now : values.Environment) (count : ExpressionTree) → value ≡ values.self_determined_value now count →
+        result ≡ spec.turns_of now count }
+{
+    turns_in(value)
+}
+
+/// How many turns a `repeat` makes.
 pub fn turns_of(count: &Expression, environment: &Environment<'_>) -> u64
     ensures { result ≡ spec.turns_of environment.now count.now }
 {
-    turns_in(self_determined_value(count, environment))
+    turns_by(self_determined_value(count, environment))
 }
