@@ -4,3 +4,4 @@ pub mod SliceLemmas
 pub mod CodeLemmas
 pub mod OperationLemmas
 pub mod CompileLemmas
+pub mod GuardLemmas

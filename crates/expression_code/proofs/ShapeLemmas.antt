@@ -20,7 +20,7 @@ pub record IsLike (v w : Vector) : Type 0 where
 like_blank : (x : Variable) (v : Vector) → HasShape x v → IsLike v (blank x)
 like_blank x v h = record { size = h.0 ∙ sym (length-replicate x.length X); sign = h.1 }
 
-like_at : (variables : List Variable) (values : List Vector) (n : ℕ) → HasDeclaredShape (slice_get variables n) (slice_get values n) →
+pub like_at : (variables : List Variable) (values : List Vector) (n : ℕ) → HasDeclaredShape (slice_get variables n) (slice_get values n) →
     IsLike (unwrap_or (slice_get values n) (filled 1 X)) (unwrap_or (slice_get (map blank variables) n) (filled 1 X))
 like_at [] [] n h = record { size = refl; sign = refl }
 like_at [] (v ∷ vs) zero h = absurd h

@@ -4,4 +4,5 @@ pub mod Code
 pub mod Operations
 pub mod CodeOf
 pub mod Heads
+pub mod Guards
 pub mod Laws

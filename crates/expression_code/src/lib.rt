@@ -5,6 +5,7 @@
 
 mod compile;
 mod context;
+mod guard;
 mod law;
 mod operation;
 mod operators;
@@ -14,6 +15,7 @@ mod size;
 
 pub use compile::{compile_expression, compile_right_side};
 pub use context::Context;
+pub use guard::{Guard, GuardedCode, guard_expression, guard_right_side};
 pub use law::expression_code_law;
 pub use operation::{BinaryStep, ExpressionCode, Leaf, Operation, UnaryStep};
 pub use run::run_expression;

@@ -1,5 +1,8 @@
--- *internal*: The code of a design: by place what leads on from it, by process where it begins, by variable and by event who listens.
-use Rattle.std.specs.Prelude.{ℕ, zero, suc, ◌==◌, Bool, false, if◌then◌else◌, List, [], Option, None, Some, length, slice_get, slice_set, unwrap_or}
+-- *internal*: The code of a design: by place what leads on from it and the code of its action's operand, by process where it begins, by
+-- variable and by event who listens.
+use Rattle.std.specs.Prelude.{ℕ, zero, suc, ◌==◌, Bool, false, if◌then◌else◌, List, [], Option, None, Some, length, slice_get, slice_set, unwrap_or, option_and_then}
+use Rattle.vbits.specs.Vectors.{Vector}
+use Rattle.expression_code.specs.Guards.{GuardedCode, guarded_value}
 use Rattle.vcode.specs.declared.point.Point.{Point}
 use Rattle.vcode.specs.declared.point.Point.TheVariants.{Ended, Executing, Repeating, Writing, Waiting}
 use Rattle.vcode.specs.declared.link.Link.{Link}
@@ -9,6 +12,7 @@ use Rattle.vcode.specs.Points.{place_of_point}
 pub record Code : Type 0 where
   pub links : List Link  -- by place
   pub counters : List (Option ℕ)  -- by place the number of the counter of the `repeat` there, if one stands there
+  pub operands : List (Option GuardedCode)  -- by place the code of the operand of the action there, if it has one
   pub begins : List Point  -- by process
   pub by_variable : List (List Listener)
   pub by_event : List (List Listener)
@@ -76,3 +80,12 @@ settle code turns point = pass_spent code turns (length code.links) point
 -- where it comes that is done with a place
 abbrev pub behind : Code → List ℕ → ℕ → Point
 behind code turns place = settle code turns (link_at code.links place).next
+
+-- ---- operands
+
+abbrev pub operand_code_at : Code → ℕ → Option GuardedCode
+operand_code_at code place = unwrap_or (slice_get code.operands place) None
+
+-- the value of the operand at a place, by the values of the variables and the time as `$time` tells it, where its guards hold
+abbrev pub operand_value : Code → ℕ → List Vector → ℕ → Option Vector
+operand_value code place values moment = option_and_then (guarded_value values moment) (operand_code_at code place)

@@ -1,4 +1,4 @@
-// The code of a design: links by place, begins by process, listeners by variable and by event.
+// The code of a design: links and operands by place, begins by process, listeners by variable and by event.
 
 ghost use Rattle.std.specs.Prelude.{◌≡◌, Some};
 ghost use Rattle.vcode.specs.Code as spec;
@@ -6,7 +6,10 @@ ghost use Rattle.vcode.specs.Code as spec;
 use crate::link::Link;
 use crate::listener::{Listener, Listeners};
 use crate::point::Point;
+use expression_code::GuardedCode;
 use std::marker::Model;
+use vbits::Vec4;
+use vvalue::environment::Environment;
 
 /// The code of a design. A clause sees it as the record `Code` of specs/Code.antt.
 #[derive(Drop)]
@@ -15,6 +18,8 @@ pub struct Code {
     pub links: Vec<Link>,
     /// By place the number of the counter of the `repeat` there, if one stands there (9.6).
     pub counters: Vec<Option<u32>>,
+    /// By place the code of the operand of the action there, if it has one: of what its step evaluates first.
+    pub operands: Vec<Option<GuardedCode>>,
     /// By process the point at which it begins.
     pub begins: Vec<Point>,
     pub by_variable: Vec<Listeners>,
@@ -25,12 +30,17 @@ pub struct Code {
 
 impl Model for Code {
     ghost use Rattle.vcode.specs.Code as code;
+    ghost use Rattle.expression_code.specs.contracts.guard.GuardedCode as guarded;
+    ghost use Rattle.std.specs.Coded.{codes};
 
     ghost Value = { code.Code };
+
+    ghost coded = { Prim.hlevel (codes, guarded.the_row.coded) };
 
     ghost view = { λ c. record {
       links = c.links.items;
       counters = c.counters.items;
+      operands = c.operands.items;
       begins = c.begins.items;
       by_variable = c.by_variable.items;
       by_event = c.by_event.items;
@@ -166,6 +176,20 @@ impl Code {
         ensures { result ≡ spec.behind self.now turns.now place }
     {
         self.settle(turns, link_at(&self.links, place).next)
+    }
+
+    /// The value of the operand of the action at this place, where its code is known and its guards hold. It takes no memory.
+    #[inline(never)]
+    pub fn operand(&self, place: usize, environment: &Environment<'_>) -> Option<Vec4>
+        ensures { result ≡ spec.operand_value self.now place environment.now.values environment.now.time }
+    {
+        let Some(operand) = self.operands.get(place) else {
+            return None;
+        };
+        match operand {
+            None => None,
+            Some(code) => code.value(environment),
+        }
     }
 
     /// Those who may wait for a change of this variable.

@@ -5,16 +5,18 @@ use Rattle.vcode.specs.declared.link.Link.{Link}
 use Rattle.vdesign.specs.Design.{Design}
 use Rattle.vcompile.specs.Links.{links_of, begins_by, counters_from}
 use Rattle.vcompile.specs.Listening.{Lists, lists_of, events_in}
+use Rattle.vcompile.specs.Operands.{operands_of}
 use Rattle.vcompile.specs.Whole.{is_whole}
 
 -- of a design that has too many places
 abbrev pub no_code : Code
-no_code = record { links = []; counters = []; begins = []; by_variable = []; by_event = []; whole = false }
+no_code = record { links = []; counters = []; operands = []; begins = []; by_variable = []; by_event = []; whole = false }
 
 abbrev pub code_with : Design → List Link → Lists → Code
 code_with design links lists = record {
   links = links;
   counters = counters_from 0 design.actions;
+  operands = operands_of design.variables design.actions;
   begins = begins_by design.processes;
   by_variable = lists.by_variable;
   by_event = lists.by_event;

@@ -5,7 +5,7 @@ use Rattle.vbits.specs.Vectors.{Vector}
 use Rattle.vcode.specs.declared.point.Point.{Point}
 use Rattle.vcode.specs.declared.point.Point.TheVariants as points
 use Rattle.vcode.specs.declared.listener.Listener.{Listener}
-use Rattle.vcode.specs.Code.{Code, link_at, listeners_at, begin_of, counter_at, turns_at, with_turns, settle, behind}
+use Rattle.vcode.specs.Code.{Code, link_at, listeners_at, begin_of, counter_at, turns_at, with_turns, settle, behind, operand_value}
 use Rattle.vdesign.specs.Design.{Design}
 use Rattle.vdesign.specs.declared.action.Edge.{Edge}
 use Rattle.vdesign.specs.declared.action.Term.{Term}
@@ -18,6 +18,7 @@ use Rattle.vmodel.specs.declared.process.Frame.{Frame}
 use Rattle.vmodel.specs.declared.process.Frame.TheVariants.{Executing, Repeating, Writing}
 use Rattle.vmodel.specs.declared.effect.Disposition.TheVariants.{Waiting}
 use Rattle.vmodel.specs.Step.{frames, place_of, execute_at}
+use Rattle.vmodel.specs.Operands.{operand}
 use Rattle.vmodel.specs.Waking.{hears, has_come}
 use Rattle.vcompile.specs.Listening.{edge_of, resumes_at, listener_at}
 use Rattle.vcompile.specs.CodeOf.{code_of}
@@ -148,3 +149,11 @@ HearsOnly = (design : Design) (term : Term) (listener : Listener) →
 pub record IsHeardByAll : Type 0 where
   pub all : HearsAll
   pub only : HearsOnly
+
+-- ---- operands
+
+-- where the code of the operand at a place has a value, it is that of the operand of the action there
+abbrev pub IsOperand : Type 0
+IsOperand = (design : Design) (place : ℕ) (action : Action) (now : Environment) (value : Vector) →
+    slice_get design.actions place ≡ Some action → now.variables ≡ design.variables →
+    operand_value (code_of design) place now.values now.time ≡ Some value → value ≡ operand now action

@@ -7,6 +7,7 @@ ghost use Rattle.vcompile.specs.Links.{links_of as links_of_design};
 use crate::counters::counters_of;
 use crate::links::{MOST, begins_of, links_of};
 use crate::listening::{events_in, lists_of};
+use crate::operands::operands_of;
 use crate::whole::is_whole;
 use basis::NoMemory;
 use std::alloc::Global;
@@ -20,6 +21,7 @@ fn no_code(alloc: Global) -> Code
     Code {
         links: Vec::new(alloc),
         counters: Vec::new(alloc),
+        operands: Vec::new(alloc),
         begins: Vec::new(alloc),
         by_variable: Vec::new(alloc),
         by_event: Vec::new(alloc),
@@ -39,6 +41,7 @@ fn code_by(alloc: Global, design: &Design) -> Result<Code, NoMemory>
     let whole = is_whole(design, &links, events_in(&design.actions));
     Ok(Code {
         counters: counters_of(alloc, &design.actions)?,
+        operands: operands_of(alloc, &design.variables, &design.actions)?,
         begins: begins_of(alloc, &design.processes)?,
         by_variable: lists.by_variable,
         by_event: lists.by_event,

@@ -3,6 +3,7 @@ use Rattle.vvalue.specs.Value.{Environment}
 use Rattle.expression_code.specs.Shapes.{AreShaped, reads}
 use Rattle.expression_code.proofs.ShapeLemmas.{AreLike, reads_shaped, like_read}
 use Rattle.expression_code.proofs.CodeLemmas.{in_context, by_itself_is, right_side_is, delay_is}
+use Rattle.expression_code.proofs.GuardLemmas.{expression_is, right_side_guarded}
 use Rattle.expression_code.proofs.law.expression_code_law.Goals as goal
 
 like : (now : Environment) (tree : ExpressionTree) → AreShaped now.variables now.values → AreLike now (reads tree)
@@ -22,3 +23,9 @@ returns-clause-right_side c = λ now count tree shaped. right_side_is now count 
 
 pub returns-clause-delay : goal.returns-clause-delay
 returns-clause-delay c = λ now amount shaped. delay_is now amount (like now amount shaped)
+
+pub returns-clause-guarded : goal.returns-clause-guarded
+returns-clause-guarded c = λ now tree v h. expression_is now tree v h
+
+pub returns-clause-guarded_right_side : goal.returns-clause-guarded_right_side
+returns-clause-guarded_right_side c = λ now targets tree v h. right_side_guarded now targets tree v h

@@ -1,5 +1,6 @@
 use Rattle.vcompile.proofs.StepLemmas.{begins_along, steps_along, passes_along, resumes_along, stays_along}
 use Rattle.vcompile.proofs.HeardLemmas.{hears_all, hears_only}
+use Rattle.vcompile.proofs.OperandLemmas.{operand_is}
 use Rattle.vcompile.proofs.law.code_law.Goals as goal
 
 pub returns-clause-linked : goal.returns-clause-linked
@@ -7,3 +8,6 @@ returns-clause-linked c = record { begins = begins_along; steps = steps_along; p
 
 pub returns-clause-hears : goal.returns-clause-hears
 returns-clause-hears c = record { all = hears_all; only = hears_only }
+
+pub returns-clause-operands : goal.returns-clause-operands
+returns-clause-operands c = operand_is
