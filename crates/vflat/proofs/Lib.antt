@@ -1,4 +1,5 @@
 mod PointLemmas
+mod OperandLemmas
 mod FlatLemmas
 mod SilentLemmas
 mod RisingLemmas

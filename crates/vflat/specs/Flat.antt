@@ -269,10 +269,13 @@ pub record Matches (design : Design) (f : Flat) (t : State) : Type 0 where
   pub counted : AreCounted (code_of design) f.turns t.processes
 
 -- the flat state of a state in which every process begins: no turn is left, and nothing is held
-abbrev pub flat_opening : Code → State → Flat
-flat_opening code t = record {
+abbrev pub flat_with : Code → State → Flat
+flat_with code rest = record {
   points = code.begins;
   turns = replicate (counter_count code.counters) 0;
   held = replicate (length code.begins) None;
-  rest = without_processes t;
+  rest = rest;
 }
+
+abbrev pub flat_opening : Code → State → Flat
+flat_opening code t = flat_with code (without_processes t)

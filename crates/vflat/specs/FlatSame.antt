@@ -12,7 +12,8 @@ use Rattle.sched_core.specs.Tests.{Tells, list_tells, option_tells}
 use Rattle.vcode.specs.declared.point.Point.{Point}
 use Rattle.vcode.specs.declared.point.Point.TheVariants.{Ended, Executing, Repeating, Writing, Waiting}
 use Rattle.vcode.specs.Points.{is_same_point}
-use Rattle.vmodel.specs.Digest.{digest, digest_with, digest_of_numbers}
+use Rattle.vkernel.specs.KernelFed.{kernel_fed}
+use Rattle.vmodel.specs.Digest.{digest_with, digest_of_numbers}
 use Rattle.vmodel.specs.Same.{state_same}
 use Rattle.vmodel.specs.SameLaws.{states_tell}
 use Rattle.vflat.specs.Flat.{Flat}
@@ -69,7 +70,7 @@ digest_of_points word (point ∷ points) = digest_of_points (digest_with word (p
 
 -- what is no process's, and then where the processes stand and how many turns are left
 abbrev pub flat_fed : Flat → fed.HashWrites
-flat_fed f = fed.u64 (digest f.rest) ++ fed.u64 (digest_of_numbers (digest_of_points 0 f.points) f.turns)
+flat_fed f = kernel_fed f.rest ++ fed.u64 (digest_of_numbers (digest_of_points 0 f.points) f.turns)
 
 pub flats_fed_alike : (f g : Flat) → flat_same f g ≡ true → flat_fed f ≡ flat_fed g
 flats_fed_alike f g h = ap flat_fed ((flats_tell f g).0 h)

@@ -15,7 +15,7 @@ use std::marker::Model;
 use vbits::Vec4;
 use vcode::code::Code;
 use vcode::point::Point;
-use vmodel::State;
+use vkernel::Kernel;
 
 /// A state kept flat. A clause sees it as the record `Flat` of specs/Flat.antt.
 #[derive(Drop)]
@@ -23,7 +23,7 @@ pub struct Flat {
     pub(crate) points: Vec<Point>,
     pub(crate) turns: Vec<u64>,
     pub(crate) held: Vec<Option<Vec4>>,
-    pub(crate) rest: State,
+    pub(crate) rest: Kernel,
 }
 
 impl Model for Flat {
@@ -161,13 +161,11 @@ fn nothing_held(alloc: Global, count: usize) -> Result<Vec<Option<Vec4>>, NoMemo
 }
 
 impl Flat {
-    /// The flat state of a state in which every process begins.
-    pub fn opening(alloc: Global, code: &Code, state: State) -> Result<Flat, NoMemory>
+    /// The flat state in which every process begins, with this beside the processes.
+    pub fn opening(alloc: Global, code: &Code, rest: Kernel) -> Result<Flat, NoMemory>
         requires { length code.now.begins ≤ 256 }
-        ensures { IfOk result (λ flat. flat ≡ spec.flat_opening code.now state) }
+        ensures { IfOk result (λ flat. flat ≡ spec.flat_with code.now rest) }
     {
-        let mut rest = state;
-        rest.forget_processes();
         Ok(Flat {
             points: Vec::from_slice(alloc, &code.begins)?,
             turns: no_turns(alloc, &code.counters)?,
@@ -189,7 +187,7 @@ impl Flat {
     }
 
     /// All of it but its processes.
-    pub fn rest(&self) -> &State
+    pub fn rest(&self) -> &Kernel
         ensures { result.now ≡ self.now.rest }
     {
         &self.rest

@@ -1,12 +1,14 @@
 // The step of a flat state (IEEE 1364-2005, 11.3, 11.4): a process goes on by the code of the design, and who waits wakes by its lists.
 
-ghost use Rattle.std.specs.Prelude.{◌≡◌, ◌<◌, ℕ, List, [], ◌∷◌, Option, None, length, slice_set, true, IfOk, OnOk, OnErr};
+ghost use Rattle.std.specs.Prelude.{◌≡◌, ◌<◌, ℕ, List, [], ◌∷◌, Option, Some, None, length, slice_get, slice_set, true, IfOk, OnOk, OnErr};
 ghost use Rattle.std.specs.Option.{ForSome};
 ghost use Rattle.vcompile.specs.Laws.{turns_behind};
 ghost use Rattle.vdesign.specs.declared.action.Edge.TheVariants.{Any};
 ghost use Rattle.vdesign.specs.declared.action.Term.TheVariants.{Change};
 ghost use Rattle.vmodel.specs.InnerStep.{behind};
+ghost use Rattle.vmodel.specs.Operands.{operand};
 ghost use Rattle.vmodel.specs.Step.{frames, place_of};
+ghost use Rattle.vcompile.specs.CodeOf.{code_of};
 ghost use Rattle.vcompile.specs.Links as links;
 ghost use Rattle.vflat.specs.Flat as spec;
 ghost use Rattle.vflat.specs.Flat.{terms_told, told_of_event, flat_transition_of, flat_viewed, flat_next};
@@ -32,7 +34,7 @@ use vmodel::effect::{Disposition, Effect, effect_at};
 use vmodel::part::{Kept, Part};
 use vmodel::process::Frame;
 use vmodel::values::{value_after, value_in};
-use vmodel::{State, is_edge, is_print};
+use vmodel::{is_edge, is_print};
 use vvalue::cases::turns_of;
 use vvalue::environment::Environment;
 
@@ -217,6 +219,27 @@ fn turns_before(code: &Code, turns: &[u64], place: usize, left: Option<u64>) -> 
     }
 }
 
+// The operand of the action that a frame executes, where its code is known and its guards hold.
+#[tactic(auto, using(crate::proofs::OperandLemmas::operand_known))]
+fn operand_at(
+    design: &Design,
+    code: &Code,
+    frame: Frame,
+    action: &Action,
+    environment: &Environment<'_>,
+) -> Option<Vec4>
+    requires code { code.now ≡ code_of design.now }
+    requires there { slice_get design.now.actions (place_of frame) ≡ Some action.now }
+    requires here { environment.now.variables ≡ design.now.variables }
+    ensures { ForSome result (λ value. value ≡ operand environment.now action.now) }
+{
+    match frame {
+        Frame::Executing(place) => code.operand(place, environment),
+        Frame::Repeating(..) => None,
+        Frame::Writing(_) => None,
+    }
+}
+
 impl Flat {
     // A listener wakes its process, where it hears.
     #[tactic(auto, using(crate::proofs::FlatLemmas::wakes_now, crate::proofs::FlatLemmas::wakes_not))]
@@ -304,7 +327,7 @@ impl Flat {
         self.wake_each(code, &news, listeners);
     }
 
-    // The same of what a step wrote.
+    // What a step wrote is written, and those wake who wait for what that changes, or for the event that it triggers.
     fn write(&mut self, code: &Code, effect: &Effect)
         ensures { self.new ≡ write_and_wake code.now effect.now.wrote effect.now.triggered self.old }
     {
@@ -386,7 +409,8 @@ impl Flat {
         effect: &mut Effect,
         monitors: &mut Vec<usize>,
     ) -> Result<(), NoMemory>
-        requires { process < 256 }
+        requires code { code.now ≡ code_of design.now }
+        requires process { process < 256 }
         ensures ok { OnOk result (flat_transition_of design.now code.now (Choice.Run process) self.old
             ≡ flat_to self.new effect.new monitors.new.items) }
         ensures err { OnErr result (self.new ≡ self.old) }
@@ -399,7 +423,8 @@ impl Flat {
         let alloc = *self.points.allocator();
         let held = held_by(&self.held, process as usize);
         let environment = self.rest.environment(design);
-        let course = effect_at(alloc, frame, action, held, &environment, effect)?;
+        let operand = operand_at(design, code, frame, action, &environment);
+        let course = effect_at(alloc, frame, action, held, operand, &environment, effect)?;
         let left = turns_left(frame, action, &environment);
         self.place(code, process, frame, left, course.next, course.then, effect)?;
         self.finish(code, effect, monitors);
@@ -433,7 +458,8 @@ impl Flat {
         effect: &mut Effect,
         monitors: &mut Vec<usize>,
     ) -> Result<(), NoMemory>
-        requires { IsWithin choice }
+        requires code { code.now ≡ code_of design.now }
+        requires within { IsWithin choice }
         ensures ok { OnOk result (flat_transition_of design.now code.now choice self.old
             ≡ flat_to self.new effect.new monitors.new.items) }
         ensures err { OnErr result (self.new ≡ self.old) }
@@ -462,7 +488,8 @@ impl Flat {
         effect: &mut Effect,
         monitors: &mut Vec<usize>,
     ) -> Result<(), NoMemory>
-        requires { IsWithin choice }
+        requires code { code.now ≡ code_of design.now }
+        requires within { IsWithin choice }
         ensures ok { OnOk result (held_view self.old i choice (flat_transition_of design.now code.now choice self.old)
             ≡ flat_to self.new effect.new monitors.new.items) }
         ensures err { OnErr result (self.new ≡ self.old) }
@@ -507,6 +534,7 @@ impl Flat {
         effect: &mut Effect,
         monitors: &mut Vec<usize>,
     ) -> Result<(), NoMemory>
+        requires code { code.now ≡ code_of design.now }
         requires within { IsWithin choice }
         requires silent { IsSilent design.now code.now choice self.old }
         ensures ok { OnOk result (flat_viewed design.now self.old i choice (flat_transition_of design.now code.now choice self.old)
@@ -530,7 +558,8 @@ impl Flat {
         effect: &mut Effect,
         monitors: &mut Vec<usize>,
     ) -> Result<(), NoMemory>
-        requires { IsWithin choice }
+        requires code { code.now ≡ code_of design.now }
+        requires within { IsWithin choice }
         ensures ok { OnOk result (flat_viewed design.now self.old i choice (flat_transition_of design.now code.now choice self.old)
             ≡ flat_to self.new effect.new monitors.new.items) }
         ensures err { OnErr result (self.new ≡ self.old) }
@@ -558,7 +587,8 @@ impl Flat {
         effect: &mut Effect,
         monitors: &mut Vec<usize>,
     ) -> Result<(), NoMemory>
-        requires { IsWithin choice }
+        requires code { code.now ≡ code_of design.now }
+        requires within { IsWithin choice }
         ensures ok { OnOk result (flat_viewed design.now self.old i choice (flat_transition_of design.now code.now choice self.old)
             ≡ flat_to self.new effect.new monitors.new.items) }
         ensures err { OnErr result (self.new ≡ self.old) }
@@ -573,7 +603,7 @@ impl Flat {
         }
     }
 
-    /// The step of choice `i`, in place, as `State::step_into` has it.
+    /// The step of choice `i`, in place, as `State::step_into` has it, by the code of the design.
     #[tactic(auto, using(crate::proofs::FlatLemmas::plain_step))]
     pub fn step_into(
         &mut self,
@@ -583,6 +613,7 @@ impl Flat {
         effect: &mut Effect,
         monitors: &mut Vec<usize>,
     ) -> Result<(), NoMemory>
+        requires code { code.now ≡ code_of design.now }
         ensures ok { OnOk result (flat_next design.now code.now self.old i ≡ flat_to self.new effect.new monitors.new.items) }
         ensures err { OnErr result (self.new ≡ self.old) }
         ensures err_monitors { OnErr result (monitors.new.items ≡ monitors.old.items) }
@@ -599,6 +630,7 @@ impl Flat {
 
     /// The same, where nobody asks what the step did.
     pub fn go(&mut self, design: &Design, code: &Code, i: u32) -> Result<(), NoMemory>
+        requires code { code.now ≡ code_of design.now }
         ensures ok { OnOk result (self.new ≡ (flat_next design.now code.now self.old i).flat) }
         ensures err { OnErr result (self.new ≡ self.old) }
     {

@@ -8,6 +8,7 @@ mod law;
 mod machine;
 mod machine_state;
 mod reads;
+mod rest;
 mod run;
 
 pub use law::machine_law;

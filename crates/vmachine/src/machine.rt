@@ -3,6 +3,9 @@
 ghost use Rattle.std.specs.Prelude.{◌≡◌, IfOk};
 ghost use Rattle.sched_core.specs.declared.setting.Departures.TheVariants.{Taking};
 ghost use Rattle.sched_core.specs.declared.setting.Looked.TheVariants.{Values};
+ghost use Rattle.vcompile.specs.CodeOf.{code_of};
+ghost use Rattle.vflat.specs.Flat.{flat_opening};
+ghost use Rattle.vflat.specs.Representations.{representation_of_opening};
 ghost use Rattle.vmodel.specs.Run.{opening_of};
 
 use crate::machine_state::MachineState;
@@ -14,6 +17,8 @@ use std::marker::Model;
 use vcode::code::Code;
 use vcompile::compile;
 use vdesign::design::Design;
+use vflat::Flat;
+use vkernel::Kernel;
 use vmodel::{State, opening};
 
 /// The runs of a design within a time limit, in units of its precision, and in a grain; with which departures
@@ -122,6 +127,32 @@ impl Machine {
         state.look(self.departures, self.looked);
         Ok(state)
     }
+
+    // The same as a flat state.
+    fn opening_flat(&self) -> Result<Flat, NoMemory>
+        ensures { IfOk result (λ flat. flat ≡ flat_opening (code_of self.now.design) (opening_of self.now)) }
+    {
+        let rest = Kernel::opening(
+            self.alloc,
+            &self.design,
+            self.until,
+            self.grain,
+            self.departures,
+            self.looked,
+        )?;
+        Flat::opening(self.alloc, &self.code, rest)
+    }
+
+    // The first of its states: flat, where the code is whole.
+    fn first(&self) -> Result<MachineState, NoMemory>
+        ensures { IfOk result (λ s. s ≡ representation_of_opening (code_of self.now.design) (opening_of self.now)) }
+    {
+        if self.code.whole {
+            Ok(MachineState::flat(self.opening_flat()?))
+        } else {
+            Ok(MachineState::plain(self.opening_state()?))
+        }
+    }
 }
 
 /// States are those of runs, choices those of 11.4.1 and 11.4.2, and marks are slot ends and ends.
@@ -134,8 +165,7 @@ impl Space for Machine {
     ghost rules = { machine_rules };
 
     fn root(&self) -> Result<MachineState, NoMemory> {
-        let state = self.opening_state()?;
-        MachineState::opening(self.alloc, &self.code, state)
+        self.first()
     }
 
     fn copy(&self, s: &MachineState) -> Result<MachineState, NoMemory> {

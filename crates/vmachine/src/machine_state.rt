@@ -1,9 +1,11 @@
 // A state of a machine.
 
-ghost use Rattle.std.specs.Prelude.{◌≡◌, ◌≤◌, length, IfOk, OnOk, OnErr};
-ghost use Rattle.vflat.specs.Representations.{rest_in, representation_of_opening, representation_step, representation_next, representation_to};
+ghost use Rattle.std.specs.Prelude.{◌≡◌, IfOk, OnOk, OnErr};
+ghost use Rattle.vflat.specs.Representations.{plain, fast, rest_in, representation_step, representation_next, representation_to};
+ghost use Rattle.vcompile.specs.CodeOf.{code_of};
 ghost use Rattle.vmodel.specs.Run.{is_mark};
 
+use crate::rest::Rest;
 use basis::NoMemory;
 use std::alloc::Global;
 use std::hash::{Hash, Hasher};
@@ -76,21 +78,22 @@ impl Hash for MachineState {
 }
 
 impl MachineState {
-    /// The state of a machine in which every process begins: flat, where the code is whole.
-    pub(crate) fn opening(
-        alloc: Global,
-        code: &Code,
-        state: State,
-    ) -> Result<MachineState, NoMemory>
-        requires { length code.now.begins ≤ 256 }
-        ensures { IfOk result (λ s. s ≡ representation_of_opening code.now state) }
+    /// A state that is kept as it is.
+    pub(crate) fn plain(state: State) -> MachineState
+        ensures { result ≡ plain state }
     {
-        let kept = if code.whole {
-            Kept::Fast(Flat::opening(alloc, code, state)?)
-        } else {
-            Kept::Plain(state)
-        };
-        Ok(MachineState { kept })
+        MachineState {
+            kept: Kept::Plain(state),
+        }
+    }
+
+    /// A state that is kept flat.
+    pub(crate) fn flat(flat: Flat) -> MachineState
+        ensures { result ≡ fast flat }
+    {
+        MachineState {
+            kept: Kept::Fast(flat),
+        }
     }
 
     /// A state that is the same.
@@ -106,6 +109,7 @@ impl MachineState {
 
     /// The step of choice `i`. E901 is the only refusal, and leaves the state as it was.
     pub(crate) fn go(&mut self, design: &Design, code: &Code, i: u32) -> Result<(), NoMemory>
+        requires { code.now ≡ code_of design.now }
         ensures ok { OnOk result (self.new ≡ representation_step design.now code.now self.old i) }
         ensures err { OnErr result (self.new ≡ self.old) }
     {
@@ -124,6 +128,7 @@ impl MachineState {
         effect: &mut Effect,
         monitors: &mut Vec<usize>,
     ) -> Result<(), NoMemory>
+        requires { code.now ≡ code_of design.now }
         ensures ok { OnOk result (representation_next design.now code.now self.old i ≡
             representation_to self.new effect.new monitors.new.items) }
         ensures err { OnErr result (self.new ≡ self.old) }
@@ -142,12 +147,12 @@ impl MachineState {
     }
 
     /// All of it but its processes.
-    pub(crate) fn rest(&self) -> &State
-        ensures { result.now ≡ rest_in self.now }
+    pub(crate) fn rest(&self) -> Rest<'_>
+        ensures { result ≡ rest_in self.now }
     {
         match &self.kept {
-            Kept::Plain(state) => state,
-            Kept::Fast(flat) => flat.rest(),
+            Kept::Plain(state) => Rest::plain(state),
+            Kept::Fast(flat) => Rest::flat(flat.rest()),
         }
     }
 }

@@ -9,12 +9,12 @@ ghost use Rattle.vmachine.specs.Reads.{end_in, slot_in};
 
 use crate::machine::Machine;
 use crate::machine_state::MachineState;
+use crate::rest::Rest;
 use sched_core::bag::Bag;
 use sched_core::end::End;
 use vbits::Vec4;
-use vmodel::State;
 
-fn end_at(state: &State) -> Option<End>
+fn end_at(state: &Rest<'_>) -> Option<End>
     ensures { result ≡ end_in state.now }
 {
     if state.width() == 0 {
@@ -24,7 +24,7 @@ fn end_at(state: &State) -> Option<End>
     }
 }
 
-fn slot_at(state: &State) -> Option<u64>
+fn slot_at(state: &Rest<'_>) -> Option<u64>
     ensures { result ≡ slot_in state.now }
 {
     if state.is_mark() && state.cause().is_none() {
@@ -53,7 +53,7 @@ impl Machine {
     pub fn end_of(&self, s: &MachineState) -> Option<End>
         ensures { (t : State) → Stands self.now s.now t → result ≡ end_in t }
     {
-        end_at(s.rest())
+        end_at(&s.rest())
     }
 
     /// The time of the slot, where it has ended here and the run wasn't finished in it.
@@ -61,7 +61,7 @@ impl Machine {
         ensures stands { (t : State) → Stands self.now s.now t → result ≡ slot_in t }
         ensures own { result ≡ slot_in (state_in self.now s.now) }
     {
-        slot_at(s.rest())
+        slot_at(&s.rest())
     }
 
     /// The value of each variable, by its number.

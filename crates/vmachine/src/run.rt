@@ -20,6 +20,7 @@ ghost use Rattle.vmodel.specs.Touched.{ChangesOnlySince, HasNoSlotEnd, end_due};
 
 use crate::machine::Machine;
 use crate::machine_state::MachineState;
+use crate::rest::Rest;
 use basis::{NoMemory, OrMemory};
 use sched_core::end::End;
 use sched_core::{Log, Member, ReplayFault, Space, next_choice};
@@ -31,7 +32,7 @@ use vmodel::history::{History, Item};
 use vmodel::sink::HistorySink;
 use vmodel::touched::Touched;
 use vmodel::values::Values;
-use vmodel::{State, put_front, put_items, put_slot_end};
+use vmodel::{put_items, put_slot_end};
 
 /// Why a run wasn't handed on to its end, but for want of memory.
 #[derive(Debug, Drop, Error)]
@@ -84,7 +85,7 @@ fn hand_items<S: HistorySink>(
 fn hand_end<S: HistorySink>(
     sink: &mut S,
     due: &mut bool,
-    state: &State,
+    state: &Rest<'_>,
     touched: &mut Touched,
 ) -> Result<(), OrMemory<RunFault<S::Fault>>>
     requires { ChangesOnlySince touched.old (S.kept sink.old) state.now.values }
@@ -115,7 +116,7 @@ fn hand_end<S: HistorySink>(
 fn hand_all<S: HistorySink>(
     sink: &mut S,
     pending: &mut Pending,
-    state: &State,
+    state: &Rest<'_>,
     touched: &mut Touched,
 ) -> Result<(), OrMemory<RunFault<S::Fault>>>
     requires since { ChangesOnlySince touched.old (S.kept sink.old) state.now.values }
@@ -144,7 +145,7 @@ fn none_waits(pending: &Pending) -> bool
 fn hand<S: HistorySink>(
     sink: &mut S,
     pending: &mut Pending,
-    state: &State,
+    state: &Rest<'_>,
     touched: &mut Touched,
 ) -> Result<(), OrMemory<RunFault<S::Fault>>>
     requires since { ChangesOnlySince touched.old (S.kept sink.old) state.now.values }
@@ -168,7 +169,7 @@ fn hand<S: HistorySink>(
 fn put_pending(
     pending: &mut Pending,
     design: &Design,
-    state: &State,
+    state: &Rest<'_>,
     effect: &Effect,
     monitors: &[usize],
 ) -> Result<(), NoMemory>
@@ -178,7 +179,7 @@ fn put_pending(
     ensures no_end { HasNoSlotEnd pending.old.items.items → OnOk result (HasNoSlotEnd pending.new.items.items) }
     ensures due { OnOk result (pending.new.due ≡ true → is_mark state.now ≡ true) }
 {
-    put_front(&mut pending.items, design, state, effect, monitors)?;
+    state.put_front(&mut pending.items, design, effect, monitors)?;
     pending.due = state.is_slot_end();
     Ok(())
 }
@@ -277,7 +278,7 @@ impl Machine {
         let mut monitors = Vec::new(self.alloc);
         let mut touched = Touched::any(self.alloc);
         'walk: loop {
-            hand(sink, &mut run.pending, run.state.rest(), &mut touched)?;
+            hand(sink, &mut run.pending, &run.state.rest(), &mut touched)?;
             if may_pause && none_waits(&run.pending) && sink.is_full() {
                 return Ok(None);
             }
@@ -297,7 +298,7 @@ impl Machine {
             put_pending(
                 &mut run.pending,
                 &self.design,
-                run.state.rest(),
+                &run.state.rest(),
                 &effect,
                 &monitors,
             )?;

@@ -16,22 +16,22 @@ const FACTOR: u64 = 11_400_714_819_323_198_485;
 const WORD: u128 = 18_446_744_073_709_551_616;
 
 /// One word more.
-pub(crate) fn mix(digest: u64, word: u64) -> u64
+pub fn mix(digest: u64, word: u64) -> u64
     ensures { result ≡ digest_with digest word }
 {
     digest.wrapping_add(word).wrapping_mul(FACTOR)
 }
 
-// A vector, by its two planes.
-fn mix_vector(digest: u64, value: Vec4) -> u64
+/// A vector, by its two planes.
+pub fn mix_vector(digest: u64, value: Vec4) -> u64
     ensures { result ≡ digest_of_vector digest value }
 {
     let (known, unknown) = value.planes();
     mix(mix(digest, known), unknown)
 }
 
-// The end of a list.
-fn mix_end(digest: u64) -> u64
+/// The end of a list.
+pub fn mix_end(digest: u64) -> u64
     ensures { result ≡ digest_of_end digest }
 {
     mix(digest, 256)
@@ -44,7 +44,8 @@ fn mix_half(digest: u64, half: u128) -> u64
     mix(mix(digest, (half % WORD) as u64), (half / WORD) as u64)
 }
 
-pub(crate) fn mix_set(digest: u64, set: &ProcessSet) -> u64
+/// A set of processes, as four words.
+pub fn mix_set(digest: u64, set: &ProcessSet) -> u64
     ensures { result ≡ digest_of_set digest set.now }
 {
     let (low, high) = set.halves();

@@ -4,17 +4,19 @@
 // The law: a queue is the record `Queue` of `vmodel`, and each call is what Choices and Step say of it, however the future is kept.
 #![tactic(auto)]
 
-mod digest;
+pub mod digest;
 pub mod future_time;
 pub mod future_times;
 mod law;
 mod moves;
 mod offers;
 mod placed;
+mod reads;
 pub mod regions;
 pub mod ring_times;
 pub mod settled;
 pub mod sorted_times;
+mod steps;
 pub mod strata;
 pub mod taken;
 

@@ -88,8 +88,8 @@ impl<F: FutureTimes> Regions<F> {
         self.active.remove(process);
     }
 
-    // The first activated update, if there is one, which is taken out.
-    fn take_update(&mut self) -> Option<Parts>
+    /// The first activated update, if there is one, which is taken out. It takes no memory.
+    pub fn take_update(&mut self) -> Option<Parts>
         ensures taken { result ≡ slice_get self.old.activated 0 }
         ensures goes { self.new ≡ without_update self.old.activated self.old }
     {

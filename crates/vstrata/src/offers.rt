@@ -44,7 +44,8 @@ pub(crate) fn choice_count(
     active: &ProcessSet,
     activated: &VecDeque<Parts>,
 ) -> u32
-    ensures { result ≡ length (choices_among last active.now activated.now.items) }
+    ensures exact { result ≡ length (choices_among last active.now activated.now.items) }
+    ensures few { result ≤ 258 }
 {
     let processes = process_count(last, active);
     if activated.is_empty() {

@@ -55,7 +55,7 @@ returns-then-is_full-clause-ends g c = λ first start.
     let now = state_of c.args.self.now c.walk.run in
     let given = c.walk.invariant.2 first start in
     let on : HandsOn g.S.HistorySink.takes (is_mark now) c.walk.sink (waiting c.walk.run) c.hand.new.sink (waiting_in c.hand.new.pending (rest_in c.walk.run.state)) =
-    hands_there g.S.HistorySink.takes c.args.self.now c.walk.run.state now c.rest.result.now c.walk.sink c.hand.new.sink c.walk.run.pending c.hand.new.pending c.walk.invariant.0.stands c.rest.ensures c.in_ok-hand.ensures.ok in
+    hands_there g.S.HistorySink.takes c.args.self.now c.walk.run.state now c.rest.result c.walk.sink c.hand.new.sink c.walk.run.pending c.hand.new.pending c.walk.invariant.0.stands c.rest.ensures c.in_ok-hand.ensures.ok in
     let after = taken_on g.S.HistorySink.takes g.met.S.HistorySink.joins (is_mark now) first c.walk.sink c.hand.new.sink given.handed (waiting c.walk.run)
     (waiting_in c.hand.new.pending (rest_in c.walk.run.state)) given.taken on in
     (record { handed = after.handed; taken = after.taken; is = after.is ∙ given.is }, nothing_waits c.hand.new.pending (rest_in c.walk.run.state) (c.none_waits.ensures.0 c.if-none_waits.true))
@@ -68,7 +68,7 @@ returns-in-Ok-None-clause-ends g c = λ first start.
     let now = state_of setting c.walk.run in
     let given = c.walk.invariant.2 first start in
     let on : HandsOn g.S.HistorySink.takes (is_mark now) c.walk.sink (waiting c.walk.run) c.hand.new.sink (waiting_in c.hand.new.pending (rest_in c.walk.run.state)) =
-    hands_there g.S.HistorySink.takes c.args.self.now c.walk.run.state now c.rest.result.now c.walk.sink c.hand.new.sink c.walk.run.pending c.hand.new.pending c.walk.invariant.0.stands c.rest.ensures c.in_ok-hand.ensures.ok in
+    hands_there g.S.HistorySink.takes c.args.self.now c.walk.run.state now c.rest.result c.walk.sink c.hand.new.sink c.walk.run.pending c.hand.new.pending c.walk.invariant.0.stands c.rest.ensures c.in_ok-hand.ensures.ok in
     let after = taken_on g.S.HistorySink.takes g.met.S.HistorySink.joins (is_mark now) first c.walk.sink c.hand.new.sink given.handed (waiting c.walk.run)
     (waiting_in c.hand.new.pending (rest_in c.walk.run.state)) given.taken on in
     let chosen : IsChosen setting log c.args.steps c.walk.run.n now c.walk.run.rest.now (Ok None) =
@@ -91,7 +91,7 @@ returns-in-Ok-None-clause-slots g c = λ first start.
     let now = state_of setting c.walk.run in
     let given = c.walk.invariant.3 first start in
     let on : HandsOn g.S.HistorySink.takes (is_mark now) c.walk.sink (waiting c.walk.run) c.hand.new.sink (waiting_in c.hand.new.pending (rest_in c.walk.run.state)) =
-    hands_there g.S.HistorySink.takes c.args.self.now c.walk.run.state now c.rest.result.now c.walk.sink c.hand.new.sink c.walk.run.pending c.hand.new.pending c.walk.invariant.0.stands c.rest.ensures c.in_ok-hand.ensures.ok in
+    hands_there g.S.HistorySink.takes c.args.self.now c.walk.run.state now c.rest.result c.walk.sink c.hand.new.sink c.walk.run.pending c.hand.new.pending c.walk.invariant.0.stands c.rest.ensures c.in_ok-hand.ensures.ok in
     let after =
     handed_on g.S.HistorySink.takes g.met.S.HistorySink.joins now first c.walk.sink c.hand.new.sink given.so.handed (waiting_in c.hand.new.pending (rest_in c.walk.run.state))
     given.so.taken given.each given.cut (waiting c.walk.run) given.waits on in
@@ -115,7 +115,7 @@ returns-in-Err-clause-left g c = λ first start.
     let now = state_of setting c.walk.run in
     let given = c.walk.invariant.2 first start in
     let on : HandsOn g.S.HistorySink.takes (is_mark now) c.walk.sink (waiting c.walk.run) c.hand.new.sink (waiting_in c.hand.new.pending (rest_in c.walk.run.state)) =
-    hands_there g.S.HistorySink.takes c.args.self.now c.walk.run.state now c.rest.result.now c.walk.sink c.hand.new.sink c.walk.run.pending c.hand.new.pending c.walk.invariant.0.stands c.rest.ensures c.in_ok-hand.ensures.ok in
+    hands_there g.S.HistorySink.takes c.args.self.now c.walk.run.state now c.rest.result c.walk.sink c.hand.new.sink c.walk.run.pending c.hand.new.pending c.walk.invariant.0.stands c.rest.ensures c.in_ok-hand.ensures.ok in
     let after = taken_on g.S.HistorySink.takes g.met.S.HistorySink.joins (is_mark now) first c.walk.sink c.hand.new.sink given.handed (waiting c.walk.run)
     (waiting_in c.hand.new.pending (rest_in c.walk.run.state)) given.taken on in
     subst (λ l. LeavesSink g.S.HistorySink.takes g.S.HistorySink.fails setting l c.args.steps first c.replay_refusal.result c.hand.new.sink) c.walk.invariant.1
@@ -130,7 +130,7 @@ returns-in_err-step_into-clause-left g c = λ first start.
     let now = state_of setting c.walk.run in
     let given = c.walk.invariant.2 first start in
     let on : HandsOn g.S.HistorySink.takes (is_mark now) c.walk.sink (waiting c.walk.run) c.hand.new.sink (waiting_in c.hand.new.pending (rest_in c.walk.run.state)) =
-    hands_there g.S.HistorySink.takes c.args.self.now c.walk.run.state now c.rest.result.now c.walk.sink c.hand.new.sink c.walk.run.pending c.hand.new.pending c.walk.invariant.0.stands c.rest.ensures c.in_ok-hand.ensures.ok in
+    hands_there g.S.HistorySink.takes c.args.self.now c.walk.run.state now c.rest.result c.walk.sink c.hand.new.sink c.walk.run.pending c.hand.new.pending c.walk.invariant.0.stands c.rest.ensures c.in_ok-hand.ensures.ok in
     let after = taken_on g.S.HistorySink.takes g.met.S.HistorySink.joins (is_mark now) first c.walk.sink c.hand.new.sink given.handed (waiting c.walk.run)
     (waiting_in c.hand.new.pending (rest_in c.walk.run.state)) given.taken on in
     left_by g.S.HistorySink.takes g.S.HistorySink.fails setting c.args.run.now.log.now c.args.steps first c.hand.new.sink c.from_residual-in_err-step_into.result (Memory c.in_err-step_into.field-0.0)
@@ -146,7 +146,7 @@ returns-in_err-put_pending-clause-left g c = λ first start.
     let now = state_of setting c.walk.run in
     let given = c.walk.invariant.2 first start in
     let on : HandsOn g.S.HistorySink.takes (is_mark now) c.walk.sink (waiting c.walk.run) c.hand.new.sink (waiting_in c.hand.new.pending (rest_in c.walk.run.state)) =
-    hands_there g.S.HistorySink.takes c.args.self.now c.walk.run.state now c.rest.result.now c.walk.sink c.hand.new.sink c.walk.run.pending c.hand.new.pending c.walk.invariant.0.stands c.rest.ensures c.in_ok-hand.ensures.ok in
+    hands_there g.S.HistorySink.takes c.args.self.now c.walk.run.state now c.rest.result c.walk.sink c.hand.new.sink c.walk.run.pending c.hand.new.pending c.walk.invariant.0.stands c.rest.ensures c.in_ok-hand.ensures.ok in
     let after = taken_on g.S.HistorySink.takes g.met.S.HistorySink.joins (is_mark now) first c.walk.sink c.hand.new.sink given.handed (waiting c.walk.run)
     (waiting_in c.hand.new.pending (rest_in c.walk.run.state)) given.taken on in
     left_by g.S.HistorySink.takes g.S.HistorySink.fails setting c.args.run.now.log.now c.args.steps first c.hand.new.sink c.from_residual-in_err-put_pending.result (Memory c.in_err-put_pending.field-0.0)
@@ -162,7 +162,7 @@ walk-preserved g c =
     let now = state_of setting c.walk.run in
     let stands = c.walk.invariant.0.stands in
     let on : HandsOn g.S.HistorySink.takes (is_mark now) c.walk.sink (waiting c.walk.run) c.hand.new.sink (waiting_in c.hand.new.pending (rest_in c.walk.run.state)) =
-    hands_there g.S.HistorySink.takes c.args.self.now c.walk.run.state now c.rest.result.now c.walk.sink c.hand.new.sink c.walk.run.pending c.hand.new.pending c.walk.invariant.0.stands c.rest.ensures c.in_ok-hand.ensures.ok in
+    hands_there g.S.HistorySink.takes c.args.self.now c.walk.run.state now c.rest.result c.walk.sink c.hand.new.sink c.walk.run.pending c.hand.new.pending c.walk.invariant.0.stands c.rest.ensures c.in_ok-hand.ensures.ok in
     let chosen : IsChosen setting log c.args.steps c.walk.run.n now c.walk.run.rest.now (Ok (Some c.in-Ok-Some.chosen)) =
     subst (IsChosen setting log c.args.steps c.walk.run.n now c.walk.run.rest.now) (c.in-Ok-Some.is ∙ ap (λ (o : Option Chosen). Ok o) c.in-Ok-Some.field-0-is)
     (c.choose.ensures setting log now here (c.width_of.ensures now stands)) in
@@ -183,9 +183,9 @@ walk-preserved g c =
     let goes_on : length (choices now) ≢ 0 = λ none. absurd (omega (arith, none, chosen.1)) in
     let after_rest : State = rest_in c.step_into.new.self in
     let more : waiting_in c.put_pending.new.pending after_rest ≡ waiting_in c.hand.new.pending (rest_in c.walk.run.state) ++ items_of setting.design transition =
-    waits_there setting.design c.hand.new.pending c.put_pending.new.pending (rest_in c.walk.run.state) after_rest c.rest-in-walk.result.now effect monitors transition
-    c.in_ok-hand.ensures.due c.rest-in-walk.ensures (subst (λ (d : Design). waiting_in c.put_pending.new.pending c.rest-in-walk.result.now
-    ≡ c.hand.new.pending.items.items ++ items_of d (transition_to c.rest-in-walk.result.now effect monitors)) design
+    waits_there setting.design c.hand.new.pending c.put_pending.new.pending (rest_in c.walk.run.state) after_rest c.rest-in-walk.result effect monitors transition
+    c.in_ok-hand.ensures.due c.rest-in-walk.ensures (subst (λ (d : Design). waiting_in c.put_pending.new.pending c.rest-in-walk.result
+    ≡ c.hand.new.pending.items.items ++ items_of d (transition_to c.rest-in-walk.result effect monitors)) design
     c.in_ok-put_pending.ensures.waits) read.1 in
     let wrote : after_rest.values ≡ with_parts effect.wrote (rest_in c.walk.run.state).values =
     step_writes setting.design (code_of setting.design) c.walk.run.state c.step_into.new.self choice effect monitors stepped in (

@@ -1,0 +1,4 @@
+mod OrderLemmas
+mod OpeningLemmas
+mod ShownLemmas
+mod ValueLemmas
