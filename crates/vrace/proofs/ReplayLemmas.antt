@@ -36,6 +36,19 @@ pub count_of_writing : (cause : OrMemory WriteFault) (n : ℕ) → count_after c
 count_of_writing (or.Memory m) n = refl
 count_of_writing (or.Fault write.Write) n = refl
 
+-- no failure of a writer is told of a run that isn't written
+run_unwritten : (setting : Setting) (log : List (ℕ × ℕ)) (limit : ℕ) (fault : Fault) (n : ℕ) → IsRunFault setting log limit fault → n ≡ failures_after fault n
+run_unwritten setting log limit Write n why = absurd why
+run_unwritten setting log limit _ n why = refl
+
+-- the count of a writer's failures where a run wasn't shown to its end
+pub failures_told : {W : Type 0} (contents : W → Option (List ℕ)) (Holds : List ℕ → Type 0) (setting : Setting) (log : List (ℕ × ℕ)) (limit : ℕ) (old new : Metered W)
+    (fault : Fault) → Ends contents Holds setting log limit old new fault → new.failures ≡ failures_after fault old.failures
+failures_told contents Holds setting log limit old new fault (inl (why, kept)) =
+    ap (λ (w : Metered _). w.failures) kept ∙ run_unwritten setting log limit fault old.failures why
+failures_told contents Holds setting log limit old new fault (inr stops) =
+    stops.stops.1 ∙ count_of_writing stops.cause old.failures ∙ ap (λ (f : Fault). failures_after f old.failures) (sym stops.is)
+
 module _ (files : List (List ℕ)) (asked : Request) (log : List ℕ) (replayed : Replayed files asked log) (setting : Setting) (same : setting ≡ setting_of files asked log replayed) where
   pub dumped : (dump : List ℕ) → IsRunDump setting replayed.members asked.steps dump → IsDump files asked log dump
   dumped dump d = record {

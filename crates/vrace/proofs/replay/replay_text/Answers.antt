@@ -4,7 +4,7 @@ use Rattle.vsrc.specs.Source.{file_bytes}
 use Rattle.vrace.specs.Request.{request_of}
 use Rattle.vrace.specs.RunDumps.{Ends, IsRunShown}
 use Rattle.vrace.proofs.DumpLemmas.{on_ok, if_err}
-use Rattle.vrace.proofs.ReplayLemmas.{shown_so, reason, left}
+use Rattle.vrace.proofs.ReplayLemmas.{shown_so, reason, left, failures_told}
 use Rattle.vrace.proofs.replay.replay_text.Goals as goal
 
 pub returns-in_err-input-clause-failures : goal.returns-in_err-input-clause-failures
@@ -44,3 +44,12 @@ returns-clause-left g c =
     c.args.writer.now c.show_run.new.writer)
     (subst (λ log. IfErr c.show_run.result (Ends g.W.Write.contents (IsRunShown c.args.show machine log c.args.options.now.limits.steps) machine log
     c.args.options.now.limits.steps c.args.writer.now c.show_run.new.writer)) members c.show_run.ensures.err)
+
+pub returns-clause-failures : goal.returns-clause-failures
+returns-clause-failures g c =
+    let machine = c.in_ok-input.input.machine in
+    let members = c.in_ok-input.input.members in
+    if_err c.show_run.result
+    (failures_told g.W.Write.contents (IsRunShown c.args.show machine members c.args.options.now.limits.steps) machine members c.args.options.now.limits.steps
+    c.args.writer.now c.show_run.new.writer)
+    c.show_run.ensures.err
