@@ -49,7 +49,7 @@ impl Model for GuardedCode {
     ghost view = { λ g. record { guards = g.guards.items; code = g.code } };
 }
 
-// Whether it holds.
+// Whether the variable's value has the size and sign that the guard asks for.
 fn holds(guard: &Guard, values: &[Vec4]) -> bool
     ensures { result ≡ spec.holds values.now guard.now }
 {
@@ -71,7 +71,7 @@ fn all_hold(guards: &[Guard], values: &[Vec4]) -> bool
 }
 
 impl GuardedCode {
-    /// Its value, where its guards hold; it takes no memory.
+    /// The value of the code, where its guards hold; it takes no memory.
     pub fn value(&self, environment: &Environment<'_>) -> Option<Vec4>
         ensures { result ≡ spec.guarded_value environment.now.values environment.now.time self.now }
     {
@@ -83,7 +83,7 @@ impl GuardedCode {
     }
 }
 
-// What asks for what is declared.
+// The guard of a variable: it asks for what is declared; of no variable, for 0 bits, which no value has.
 fn guard_of(variables: &[Variable], variable: u32) -> Guard
     ensures { result ≡ spec.guard_of variables.now variable }
 {
@@ -118,7 +118,7 @@ fn is_among(guard: &Guard, guards: &[Guard]) -> bool
     false
 }
 
-// One more, unless it is there.
+// Puts a guard behind others, unless it is among them.
 fn put_guard(guards: &mut Vec<Guard>, guard: Guard) -> Result<(), NoMemory>
     ensures { OnOk result (guards.new.items ≡ spec.with_guard guard guards.old.items) }
 {
@@ -151,7 +151,7 @@ fn put_node(guards: &mut Vec<Guard>, variables: &[Variable], node: &Node) -> Res
     }
 }
 
-// Those of what nodes name.
+// Puts the guards of what these nodes name behind others.
 #[tactic(auto, using(crate::proofs::GuardLemmas::guards_joined))]
 fn put_nodes(
     guards: &mut Vec<Guard>,
@@ -167,7 +167,7 @@ fn put_nodes(
     Ok(())
 }
 
-// Those of what an expression reads.
+// Puts the guards of what an expression reads behind others.
 #[tactic(auto, using(crate::proofs::GuardLemmas::named_is_read))]
 fn put_reads(
     guards: &mut Vec<Guard>,
@@ -196,7 +196,7 @@ fn put_target(
     }
 }
 
-// Those of all targets.
+// The guards of the variables whose sizes the targets have.
 #[tactic(auto, using(crate::proofs::GuardLemmas::sized_first, crate::proofs::GuardLemmas::guards_joined))]
 fn guards_of_targets(
     alloc: Global,
@@ -213,9 +213,6 @@ fn guards_of_targets(
     Ok(guards)
 }
 
-/// One more than the most bits of a value.
-const TOO_WIDE: u32 = 65;
-
 // How many bits a target has, as its variable is declared.
 fn target_size(variables: &[Variable], target: &Target) -> u32
     ensures exact { result ≡ size_of (declared variables.now) target.now }
@@ -228,13 +225,13 @@ fn target_size(variables: &[Variable], target: &Target) -> u32
     }
 }
 
-// Those of all of them together; 65 where there are more than 64.
+// How many bits the targets have together, as their variables are declared; at most 64.
 fn targets_size(variables: &[Variable], targets: &[Target]) -> u32
-    ensures { result ≡ min 65 (size_of_all (declared variables.now) targets.now) }
+    ensures { result ≡ min 64 (size_of_all (declared variables.now) targets.now) }
 {
     let mut size = 0;
     for target in targets {
-        size = (size + target_size(variables, target)).min(TOO_WIDE);
+        size = (size + target_size(variables, target)).min(WIDEST);
     }
     size
 }
@@ -265,7 +262,7 @@ pub fn guard_right_side(
     ensures { IfOk result
         (λ guarded. guarded ≡ spec.guarded_right_side variables.now targets.now expression.now) }
 {
-    let size = targets_size(variables, targets).min(WIDEST).max(1);
+    let size = targets_size(variables, targets).max(1);
     let mut guards = guards_of_targets(alloc, variables, targets)?;
     put_reads(&mut guards, variables, expression)?;
     let code = compile_right_side(alloc, expression, variables, size)?;

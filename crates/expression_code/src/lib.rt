@@ -1,6 +1,7 @@
 // Code of expressions (IEEE 1364-2005, clause 5): compiled once, with the size and sign of each node settled, so that evaluating one asks
 // for none. In go an expression and the declared variables, and then their values; out comes the expression's value.
-// The law: where each value has its variable's size and sign, it is the value that `vvalue` gives.
+// The law: where each value has its variable's size and sign, it is the value that `vvalue` gives; guarded code tests that, and has this
+// value or none.
 #![tactic(auto)]
 
 mod compile;

@@ -1,5 +1,6 @@
-// Step code: where each place of a design leads, and who listens to what (IEEE 1364-2005, clause 9). In goes the code of a design,
-// which `vcompile` makes; out come the point that stands behind a place, and those whom a change or an event may wake.
+// Step code: where each place of a design leads, what its action's operand is worth, and who listens to what (IEEE 1364-2005, clause 9).
+// In goes the code of a design, which `vcompile` makes; out come the point that stands behind a place, the value of its operand, and
+// those whom a change or an event may wake.
 // The law: each call is the definition of its name in specs/Code.antt.
 #![tactic(auto)]
 

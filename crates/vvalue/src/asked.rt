@@ -31,13 +31,6 @@ pub fn is_true(value: Vec4) -> bool
     is_one(value.truth())
 }
 
-/// Whether a condition holds.
-pub fn holds(condition: &Expression, environment: &Environment<'_>) -> bool
-    ensures { result ≡ spec.holds environment.now condition.now }
-{
-    is_true(self_determined_value(condition, environment))
-}
-
 /// What so many bits get of an expression that is assigned to them: at the larger of both sizes, extended by its own sign and cut on
 /// the left (5.4.1, 5.5.3).
 #[tactic(auto, unfolding(crate::specs::Value::right_side))]
