@@ -1,6 +1,7 @@
 mod PointLemmas
 mod OperandLemmas
 mod FlatLemmas
+mod RowLemmas
 mod SilentLemmas
 mod RisingLemmas
 mod WakeLemmas

@@ -3,7 +3,8 @@ use Rattle.std.specs.Prelude.{◌≡◌, ℕ, Bool, true, false, List, [], slice
 use Rattle.std.specs.Borrow.{Bor}
 use Rattle.vcode.specs.declared.point.Point.{Point}
 use Rattle.vcode.specs.declared.listener.Listener.{Listener}
-use Rattle.vcode.specs.Code.{Code, with_turns}
+use Rattle.vbits.specs.Vectors.{Vector}
+use Rattle.vcode.specs.Code.{Code, with_turns, operand_value}
 use Rattle.vdesign.specs.declared.action.Edge.{Edge}
 use Rattle.vdesign.specs.declared.action.Action.{Action}
 use Rattle.vdesign.specs.declared.action.Term.{Term}
@@ -12,6 +13,7 @@ use Rattle.vmodel.specs.declared.choice.Choice.{Choice}
 use Rattle.vmodel.specs.declared.choice.Choice.TheVariants.{Run, Update, Advance}
 use Rattle.vmodel.specs.Effects.{Effect}
 use Rattle.vmodel.specs.declared.process.Frame.{Frame}
+use Rattle.vmodel.specs.declared.process.Frame.TheVariants.{Executing, Repeating, Writing}
 use Rattle.vdesign.specs.Design.{Design}
 use Rattle.vmodel.specs.InnerSilent.{is_some_print, ShowsNoLine}
 use Rattle.vmodel.specs.InnerWaking.{with_active}
@@ -105,3 +107,9 @@ IsSilent design code c f =
 -- a step of choice i, which is c, with what is held back from now on
 abbrev pub held_view : Flat → ℕ → Choice → FlatTransition → FlatTransition
 held_view f i c x = with_rest x.flat (with_held_after f.rest i c (rest_of x))
+
+-- the value of the code of the operand that a frame evaluates first, where it has one
+abbrev pub operand_of_frame : Code → Frame → List Vector → ℕ → Option Vector
+operand_of_frame code (Executing place) values moment = operand_value code place values moment
+operand_of_frame code (Repeating place n) values moment = None
+operand_of_frame code (Writing place) values moment = None

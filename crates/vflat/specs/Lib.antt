@@ -2,4 +2,5 @@
 pub mod Flat
 pub mod FlatSame
 pub mod InnerFlat
+pub mod Rows
 pub mod Representations

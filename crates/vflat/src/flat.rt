@@ -1,5 +1,5 @@
-// A state kept flat: where each process stands in the code of the design, and all else as `vmodel` keeps it (IEEE 1364-2005, clauses 9
-// and 11).
+// A state kept flat: where each process stands in the code of the design, and all else in a kernel (`vkernel`) (IEEE 1364-2005,
+// clauses 9 and 11).
 
 ghost use Rattle.std.specs.Prelude.{◌≡◌, ◌≤◌, [], length, replicate, Option, None, IfOk};
 ghost use Rattle.std.specs.Cmp.Lexicographic.{pointwise};
@@ -16,6 +16,7 @@ use vbits::Vec4;
 use vcode::code::Code;
 use vcode::point::Point;
 use vkernel::Kernel;
+use vstrata::digest::mix;
 
 /// A state kept flat. A clause sees it as the record `Flat` of specs/Flat.antt.
 #[derive(Drop)]
@@ -75,15 +76,6 @@ impl Eq for Flat {
     ghost laws = { flats_equivalent };
 }
 
-// One word more, in 64 bits.
-fn mix(digest: u64, word: u64) -> u64
-    ensures { result ≡ digest_with digest word }
-{
-    digest
-        .wrapping_add(word)
-        .wrapping_mul(11_400_714_819_323_198_485)
-}
-
 fn point_word(point: Point) -> u64
     ensures { result ≡ same.point_word point }
 {
@@ -122,7 +114,8 @@ fn mix_turns(first: u64, turns: &[u64]) -> u64
     digest
 }
 
-/// A hash is fed what is no process's, as `vmodel` has it, and one number made of where the processes stand and of the turns that are left.
+/// A hash is fed what is no process's, as `vkernel` has it, and one number made of where the processes stand and of the turns that are
+/// left.
 impl Hash for Flat {
     ghost use Rattle.vflat.specs.FlatSame.{flat_fed, flats_fed_alike};
 

@@ -6,14 +6,16 @@ ghost use Rattle.vcompile.specs.Laws.{turns_behind};
 ghost use Rattle.vdesign.specs.declared.action.Edge.TheVariants.{Any};
 ghost use Rattle.vdesign.specs.declared.action.Term.TheVariants.{Change};
 ghost use Rattle.vmodel.specs.InnerStep.{behind};
-ghost use Rattle.vmodel.specs.Operands.{operand};
-ghost use Rattle.vmodel.specs.Step.{frames, place_of};
+ghost use Rattle.vmodel.specs.Operands.{operand as operand_of};
+ghost use Rattle.vmodel.specs.Step.{environment_of, frames, place_of};
 ghost use Rattle.vcompile.specs.CodeOf.{code_of};
 ghost use Rattle.vcompile.specs.Links as links;
 ghost use Rattle.vflat.specs.Flat as spec;
 ghost use Rattle.vflat.specs.Flat.{terms_told, told_of_event, flat_transition_of, flat_viewed, flat_next};
 ghost use Rattle.vflat.specs.InnerFlat as inner;
-ghost use Rattle.vflat.specs.InnerFlat.{IsNext, IsSilent, heard_by, told_of, write_and_wake, finish, with_left, place_process, held_view, flat_to};
+ghost use Rattle.vflat.specs.Rows.{IsAfterRow, IsRow, form_effect, form_left};
+ghost use Rattle.vmodel.specs.Effects.{no_effect};
+ghost use Rattle.vflat.specs.InnerFlat.{IsNext, IsSilent, heard_by, told_of, write_and_wake, finish, with_left, with_move, place_process, held_view, flat_to};
 ghost use Rattle.vcode.specs.Code.{Code as CodeOf};
 ghost use Rattle.vdesign.specs.Design.{Design as DesignOf};
 ghost use Rattle.vmodel.specs.Choices.{IsWithin};
@@ -21,6 +23,7 @@ ghost use Rattle.vmodel.specs.Inner.{variable_of};
 ghost use Rattle.vmodel.specs.declared.part.Part.{Part as PartOf};
 
 use crate::flat::Flat;
+use crate::row::{Form, Row, row_of};
 use basis::NoMemory;
 use std::mem;
 use vbits::Vec4;
@@ -31,7 +34,7 @@ use vdesign::action::{Action, Edge};
 use vdesign::design::Design;
 use vmodel::choice::Choice;
 use vmodel::effect::{Disposition, Effect, effect_at};
-use vmodel::part::{Kept, Part};
+use vmodel::part::{Kept, Part, Parts};
 use vmodel::process::Frame;
 use vmodel::values::{value_after, value_in};
 use vmodel::{is_edge, is_print};
@@ -110,7 +113,7 @@ fn wakes(news: &News, listener: &Listener, points: &[Point]) -> bool
 /// The most places of a code.
 const MOST: usize = 4_294_967_295;
 
-// The number of a place within the code.
+// The number of a place in the code, which has at most 4,294,967,295; a larger one is cut to that.
 fn place_number(place: usize) -> u32
     ensures { result ≡ links.place_number place }
 {
@@ -231,7 +234,8 @@ fn operand_at(
     requires code { code.now ≡ code_of design.now }
     requires there { slice_get design.now.actions (place_of frame) ≡ Some action.now }
     requires here { environment.now.variables ≡ design.now.variables }
-    ensures { ForSome result (λ value. value ≡ operand environment.now action.now) }
+    ensures exact { result ≡ inner.operand_of_frame code.now frame environment.now.values environment.now.time }
+    ensures known { ForSome result (λ value. value ≡ operand_of environment.now action.now) }
 {
     match frame {
         Frame::Executing(place) => code.operand(place, environment),
@@ -384,6 +388,115 @@ impl Flat {
         self.rest.close(monitors);
     }
 
+    // A process goes on to a point, or has ended there.
+    #[tactic(auto, using(crate::proofs::RowLemmas::moved_on))]
+    fn go_to(&mut self, process: u32, to: Point)
+        requires { process < 256 }
+        ensures { self.new ≡ with_move process no_effect self.old.turns to self.old }
+    {
+        set_point(&mut self.points, process as usize, to);
+        set_held(&mut self.held, process as usize, None);
+        self.rest.go_on(process, goes_from(process, to));
+    }
+
+    // It waits at a place, where something is left behind it, and goes on to a point then.
+    #[tactic(auto, using(crate::proofs::RowLemmas::moved_to_wait))]
+    fn wait_at(&mut self, process: u32, place: usize, to: Point)
+        ensures { self.new ≡ with_move process (record no_effect { disposition = Disposition.Waiting place }) self.old.turns to self.old }
+    {
+        let point = stands_by(Disposition::Waiting(place), to);
+        set_point(&mut self.points, process as usize, point);
+        set_held(&mut self.held, process as usize, None);
+        self.rest.leave(process);
+    }
+
+    // It sleeps so long, and goes on to a point then. After want of memory all is as it was.
+    #[tactic(auto, using(crate::proofs::RowLemmas::moved_to_sleep))]
+    fn sleep_before(&mut self, process: u32, delay: u128, to: Point) -> Result<(), NoMemory>
+        requires { process < 256 }
+        ensures ok { OnOk result (self.new
+            ≡ with_move process (record no_effect { disposition = Disposition.Delayed delay }) self.old.turns to self.old) }
+        ensures err { OnErr result (self.new ≡ self.old) }
+    {
+        self.rest.sleep(process, delay, goes_from(process, to))?;
+        set_point(&mut self.points, process as usize, to);
+        set_held(&mut self.held, process as usize, None);
+        Ok(())
+    }
+
+    // One part is posted, and the process goes on to a point. After want of memory all is as it was.
+    #[tactic(auto, using(crate::proofs::RowLemmas::moved_to_post))]
+    fn post_before(&mut self, process: u32, part: Part, to: Point) -> Result<(), NoMemory>
+        requires { process < 256 }
+        ensures ok { OnOk result (self.new ≡ with_move process (form_effect 0 (Form.Post part)) self.old.turns to self.old) }
+        ensures err { OnErr result (self.new ≡ self.old) }
+    {
+        self.rest.post(Parts::one(part))?;
+        self.go_to(process, to);
+        Ok(())
+    }
+
+    // A process is placed that took a step of this form at a place, and comes to a point. After want of memory all is as it was.
+    fn place_by_form(
+        &mut self,
+        process: u32,
+        place: usize,
+        form: Form,
+        to: Point,
+    ) -> Result<(), NoMemory>
+        requires { process < 256 }
+        ensures ok { OnOk result (self.new ≡ with_move process (form_effect place form) self.old.turns to self.old) }
+        ensures err { OnErr result (self.new ≡ self.old) }
+        ensures untold { OnErr result (form_left form ≡ None) }
+    {
+        match form {
+            Form::Drive(_) | Form::Wait => self.wait_at(process, place, to),
+            Form::Sleep(delay) => return self.sleep_before(process, delay, to),
+            Form::Post(part) => return self.post_before(process, part, to),
+            Form::Assign(_) | Form::Go | Form::Loop | Form::Turn(_) => self.go_to(process, to),
+        }
+        Ok(())
+    }
+
+    // What a step of this form wrote is written, and the regions move.
+    fn finish_by_form(&mut self, code: &Code, form: Form, monitors: &mut Vec<usize>)
+        ensures { (place : ℕ) → finish code.now (form_effect place form) self.old
+            ≡ flat_to self.new (form_effect place form) monitors.new.items }
+    {
+        match form {
+            Form::Assign(part) | Form::Drive(part) => self.write_one(code, part),
+            _ => {}
+        }
+        self.rest.end_by(None);
+        self.rest.close(monitors);
+    }
+
+    // The step of a row: one of this form, behind which these places come next. After want of memory all is as it was.
+    fn run_row(
+        &mut self,
+        code: &Code,
+        process: u32,
+        frame: Frame,
+        form: Form,
+        next: &[usize],
+        effect: &mut Effect,
+        monitors: &mut Vec<usize>,
+    ) -> Result<(), NoMemory>
+        requires { process < 256 }
+        ensures ok { OnOk result
+            (IsAfterRow code.now process frame form next.now self.old effect.new self.new monitors.new.items) }
+        ensures err { OnErr result (self.new ≡ self.old) }
+        ensures err_monitors { OnErr result (monitors.new.items ≡ monitors.old.items) }
+    {
+        let place = frame.place();
+        set_left(code, &mut self.turns, place, form.left());
+        let to = comes_to(code, &self.turns, place, next, form.then(place));
+        self.place_by_form(process, place, form, to)?;
+        *effect = form.effect(place);
+        self.finish_by_form(code, form, monitors);
+        Ok(())
+    }
+
     // What a process executes, and the action there, if there is one.
     #[inline(always)]
     fn action_of<'d>(
@@ -397,6 +510,60 @@ impl Flat {
         let frame = frame_at(code, &self.turns, point_in(&self.points, process as usize))?;
         let action = design.actions.get(frame.place())?;
         Some((frame, action))
+    }
+
+    // The operand of the action that a frame executes, where its code is known and its guards hold.
+    fn operand(&self, design: &Design, code: &Code, frame: Frame, action: &Action) -> Option<Vec4>
+        requires code { code.now ≡ code_of design.now }
+        requires there { slice_get design.now.actions (place_of frame) ≡ Some action.now }
+        ensures { ForSome result (λ value. value ≡ operand_of (environment_of design.now self.now.rest) action.now) }
+    {
+        operand_at(design, code, frame, action, &self.rest.environment(design))
+    }
+
+    // The row of the action that a frame is at, where it has one and the operand that it reads is known.
+    fn row<'d>(
+        &self,
+        design: &Design,
+        frame: Frame,
+        action: &'d Action,
+        operand: Option<Vec4>,
+    ) -> Option<Row<'d>>
+        requires { ForSome operand (λ value. value ≡ operand_of (environment_of design.now self.now.rest) action.now) }
+        ensures { ForSome result (λ row. IsRow frame action.now (environment_of design.now self.now.rest) row.form row.next.now) }
+    {
+        row_of(frame, action, operand, &self.rest.environment(design))
+    }
+
+    // The step of an action that has no row, by what its effect says. After want of memory all is as it was.
+    fn run_effect(
+        &mut self,
+        design: &Design,
+        code: &Code,
+        process: u32,
+        frame: Frame,
+        action: &Action,
+        operand: Option<Vec4>,
+        effect: &mut Effect,
+        monitors: &mut Vec<usize>,
+    ) -> Result<(), NoMemory>
+        requires process { process < 256 }
+        requires at { spec.frame_at code.now self.old.turns (spec.point_in self.old.points process) ≡ Some frame }
+        requires there { slice_get design.now.actions (place_of frame) ≡ Some action.now }
+        requires operand { ForSome operand (λ value. value ≡ operand_of (environment_of design.now self.old.rest) action.now) }
+        ensures ok { OnOk result (flat_transition_of design.now code.now (Choice.Run process) self.old
+            ≡ flat_to self.new effect.new monitors.new.items) }
+        ensures err { OnErr result (self.new ≡ self.old) }
+        ensures err_monitors { OnErr result (monitors.new.items ≡ monitors.old.items) }
+    {
+        let alloc = *self.points.allocator();
+        let held = held_by(&self.held, process as usize);
+        let environment = self.rest.environment(design);
+        let course = effect_at(alloc, frame, action, held, operand, &environment, effect)?;
+        let left = turns_left(frame, action, &environment);
+        self.place(code, process, frame, left, course.next, course.then, effect)?;
+        self.finish(code, effect, monitors);
+        Ok(())
     }
 
     // A process takes one step.
@@ -420,15 +587,16 @@ impl Flat {
             self.rest.stay(effect, monitors);
             return Ok(());
         };
-        let alloc = *self.points.allocator();
-        let held = held_by(&self.held, process as usize);
-        let environment = self.rest.environment(design);
-        let operand = operand_at(design, code, frame, action, &environment);
-        let course = effect_at(alloc, frame, action, held, operand, &environment, effect)?;
-        let left = turns_left(frame, action, &environment);
-        self.place(code, process, frame, left, course.next, course.then, effect)?;
-        self.finish(code, effect, monitors);
-        Ok(())
+        let operand = self.operand(design, code, frame, action);
+        let known = operand;
+        match self.row(design, frame, action, known) {
+            Some(row) => self.run_row(code, process, frame, row.form, row.next, effect, monitors),
+            None => {
+                self.run_effect(
+                    design, code, process, frame, action, operand, effect, monitors,
+                )
+            }
+        }
     }
 
     // The first activated update is written (11.4.1).
@@ -626,6 +794,13 @@ impl Flat {
             (None, None) => self.take(design, code, choice, effect, monitors),
             _ => self.take_viewed(design, code, i, choice, effect, monitors),
         }
+    }
+
+    /// Lists of updates give back their room, where it is for more than four that aren't there; what the state holds is as it was.
+    pub fn shrink_to_fit(&mut self)
+        ensures { self.new ≡ self.old }
+    {
+        self.rest.shrink_to_fit();
     }
 
     /// The same, where nobody asks what the step did.

@@ -98,6 +98,13 @@ impl Kernel {
         })
     }
 
+    /// Lists of updates give back their room, where it is for more than four that aren't there; what the kernel holds is as it was.
+    pub fn shrink_to_fit(&mut self)
+        ensures { self.new ≡ self.old }
+    {
+        self.queue.shrink_to_fit();
+    }
+
     /// How many choices there are: 0 where the run has ended (11.4.1, 11.4.2).
     pub fn width(&self) -> u32
         ensures { result ≡ length (choices_of self.now) }
@@ -197,7 +204,7 @@ impl Kernel {
         }
     }
 
-    /// What is known now.
+    /// What expressions read in this state: the values, the time, and how the variables are declared.
     pub fn environment<'m>(&'m self, design: &'m Design) -> Environment<'m>
         ensures { result ≡ environment_of design.now self.now }
     {

@@ -49,7 +49,7 @@ impl Kernel {
     }
 }
 
-// Puts behind others what a step showed at once; nothing, where memory is short.
+// Puts behind others what a step showed at once. After want of memory they are as they were.
 fn put_shown(
     items: &mut Vec<Item>,
     design: &Design,

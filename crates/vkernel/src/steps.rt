@@ -11,7 +11,7 @@ ghost use Rattle.vmodel.specs.InnerWaking.{IsChange, with_active};
 ghost use Rattle.vmodel.specs.Parts.{write as write_of, with_parts};
 ghost use Rattle.vmodel.specs.Printed.{lines_before};
 ghost use Rattle.vmodel.specs.Queue.{with_process};
-ghost use Rattle.vmodel.specs.Step.{first_of, monitors_of, no_transition, posts, reschedule, transition_of, with_lines_after, with_moves, with_strobe, without_update};
+ghost use Rattle.vmodel.specs.Step.{deactivate, first_of, monitors_of, no_transition, posts, posts_after, reschedule, transition_of, with_lines_after, with_moves, with_next_step, with_strobe, without_update};
 
 use crate::holding::{held_with, release};
 use crate::kernel::Kernel;
@@ -23,15 +23,15 @@ use basis::NoMemory;
 use sched_core::end::Cause;
 use vdesign::design::Design;
 use vmodel::choice::Choice;
-use vmodel::effect::Effect;
+use vmodel::effect::{Disposition, Effect};
 use vmodel::part::{Part, Parts};
 use vmodel::process_set::ProcessSet;
 use vmodel::values::Change;
 use vstrata::Strata;
 
 impl Kernel {
-    /// The queue has what becomes of a process that did this, and goes on, if it does. The error is want of memory, E901, and leaves all as
-    /// it was.
+    /// The queue takes what a step did to it: what becomes of the process, the update that it posted, its monitor event. `goes` is the
+    /// process, where something is left of it. The error is want of memory, E901, and leaves all as it was.
     pub fn move_by(
         &mut self,
         process: u32,
@@ -46,6 +46,42 @@ impl Kernel {
         ensures err { OnErr result (self.new ≡ self.old) }
     {
         moves::move_by(&mut self.queue, process, effect, goes)
+    }
+
+    /// The process goes on, or has ended, where nothing is left of it.
+    pub fn go_on(&mut self, process: u32, goes: Option<u32>)
+        requires { ForSome goes (λ p. p < 256) }
+        ensures { self.new ≡ record self.old { queue = with_next_step process goes self.old.queue } }
+    {
+        self.queue.go_on(process, goes);
+    }
+
+    /// The process sleeps so long, in units of the precision; where nothing is left of it, it has ended, and only the time becomes a future
+    /// one. The error is want of memory, E901, and leaves all as it was.
+    pub fn sleep(&mut self, process: u32, delay: u128, goes: Option<u32>) -> Result<(), NoMemory>
+        requires { ForSome goes (λ p. p < 256) }
+        ensures ok { OnOk result (self.new ≡ record self.old {
+          queue = reschedule process (Disposition.Delayed delay) goes self.old.queue;
+        }) }
+        ensures err { OnErr result (self.new ≡ self.old) }
+    {
+        self.queue
+            .reschedule(process, Disposition::Delayed(delay), goes)
+    }
+
+    /// An update is posted for the current time, behind the others. The error is want of memory, E901, and leaves all as it was.
+    pub fn post(&mut self, update: Parts) -> Result<(), NoMemory>
+        ensures ok { OnOk result (self.new ≡ record self.old { queue = posts_after 0 update self.old.queue }) }
+        ensures err { OnErr result (self.new ≡ self.old) }
+    {
+        self.queue.post(0, update)
+    }
+
+    /// The process isn't active any more.
+    pub fn leave(&mut self, process: u32)
+        ensures { self.new ≡ record self.old { queue = deactivate process self.old.queue } }
+    {
+        self.queue.leave(process);
     }
 
     /// One part is written; a part of no variable writes nothing. The answer is what changed.
@@ -161,8 +197,9 @@ impl Kernel {
         effect: &Effect,
         monitors: &[usize],
     ) -> Result<(), NoMemory>
-        ensures { OnOk result (transition_to self.new effect.now monitors.now
+        ensures ok { OnOk result (transition_to self.new effect.now monitors.now
             ≡ with_lines_after design.now self.old choice (transition_to self.old effect.now monitors.now)) }
+        ensures err { OnErr result (self.new ≡ record self.old { printed = self.new.printed }) }
     {
         let mut items = Vec::new(*self.values.allocator());
         put_items(&mut items, design, self, effect, monitors)?;

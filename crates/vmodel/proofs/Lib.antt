@@ -5,7 +5,7 @@ mod FrameLemmas
 mod ContinuationLemmas
 mod FutureLemmas
 mod OpeningLemmas
-mod PartLemmas
+pub mod PartLemmas
 pub mod PlaceLemmas
 pub mod MovedLemmas
 pub mod WakingLemmas

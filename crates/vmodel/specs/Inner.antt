@@ -66,8 +66,6 @@ abbrev pub NoneIs : (ℕ × Later → Type 0) → Option (ℕ × Later) → Type
 NoneIs P None = Unit {0}
 NoneIs P (Some e) = ¬ P e
 
--- ---- the queue
-
 -- ---- what is held back, and what is printed
 
 -- held back with this choice, if there is one

@@ -65,7 +65,8 @@ ended_or : (cause : Option Cause) (cs : List Choice) (b : Bool) → length (if i
 ended_or None cs b h otherwise = otherwise h
 ended_or (Some cause) cs b h otherwise = refl
 
-end_is_mark : (s : State) → length (choices s) ≡ 0 → is_mark s ≡ true
+-- a state without a choice is a mark
+pub end_is_mark : (s : State) → length (choices s) ≡ 0 → is_mark s ≡ true
 end_is_mark s h =
     let q = s.queue in
     ended_or s.cause (choices_by s.held_back q) (length q.active == 0 && length q.activated == 0) h

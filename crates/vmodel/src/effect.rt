@@ -116,6 +116,33 @@ impl Effect {
         }
     }
 
+    /// What a step does that writes, and waits at the continuous assignment of this place (6.1).
+    pub fn of_drive(parts: Parts, place: usize) -> Effect
+        ensures { result ≡ record no_effect { wrote = parts; disposition = Disposition.Waiting place } }
+    {
+        Effect {
+            form: Form::Drive(parts, place),
+        }
+    }
+
+    /// What a step does that suspends its process (9.7).
+    pub fn of_suspend(disposition: Disposition) -> Effect
+        ensures { result ≡ record no_effect { disposition = disposition } }
+    {
+        Effect {
+            form: Form::Suspend(disposition),
+        }
+    }
+
+    /// What a step does that posts an update for the current time (11.4).
+    pub fn of_post(parts: Parts) -> Effect
+        ensures { result ≡ record no_effect { posted = Some (spec.post_after 0 parts) } }
+    {
+        Effect {
+            form: Form::Post(Post { after: 0, parts }),
+        }
+    }
+
     /// The value that a suspended assignment holds from now on (9.7.7).
     pub fn held(&self) -> Option<Vec4>
         ensures { result ≡ self.now.held }

@@ -14,7 +14,6 @@ mod holding;
 mod law;
 mod open;
 pub mod part;
-mod pieces;
 mod printed;
 pub mod process;
 pub mod process_set;
@@ -25,7 +24,7 @@ pub mod sink;
 pub mod state;
 mod step;
 pub mod touched;
-mod value;
+pub mod value;
 pub mod values;
 mod waking;
 

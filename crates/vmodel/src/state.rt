@@ -136,13 +136,6 @@ impl State {
         holding::held_by_choice(&self.held_back, &self.queue, i)
     }
 
-    /// The processes that are held back, where departures may hold back.
-    pub fn held_back(&self) -> Option<&ProcessSet>
-        ensures { option_map (λ held. held.now) result ≡ self.now.held_back }
-    {
-        self.held_back.as_ref()
-    }
-
     /// The lines of the slot so far, where lines are looked at.
     pub fn printed(&self) -> Option<&Bag>
         ensures { option_map (λ bag. bag.now) result ≡ self.now.printed }

@@ -91,6 +91,17 @@ fn given_one(target: &Target, value: Vec4, environment: &Environment<'_>) -> Par
     Parts::optional(part_of(target, letters, environment))
 }
 
+/// What a whole variable gets of a value of any size, which is cut or extended to its bits (6.2).
+pub fn whole_part(variable: u32, value: Vec4, environment: &Environment<'_>) -> Part
+    ensures { spec.resumed_parts environment.now (Target.Whole variable ∷ []) (Some value) ≡ result ∷ [] }
+{
+    let old = value_at(environment, variable);
+    Part::Whole {
+        variable,
+        value: value.resize(old.len()).with_sign(old.signed()),
+    }
+}
+
 // Puts a part behind others, where there is one.
 fn put_part(parts: &mut Vec<Part>, part: Option<Part>) -> Result<(), NoMemory>
     ensures { OnOk result (parts.new.items ≡ parts.old.items ++ option_to_list part) }

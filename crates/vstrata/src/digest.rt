@@ -30,7 +30,7 @@ pub fn mix_vector(digest: u64, value: Vec4) -> u64
     mix(mix(digest, known), unknown)
 }
 
-/// The end of a list.
+/// One word more, which ends a list.
 pub fn mix_end(digest: u64) -> u64
     ensures { result ≡ digest_of_end digest }
 {

@@ -22,6 +22,18 @@ use vmodel::choice::Choice;
 use vmodel::part::Parts;
 use vmodel::process_set::ProcessSet;
 
+/// How many more updates a list may have room for than it has.
+const SPARE: usize = 4;
+
+// The list gives back its room, where it is for more than four that aren't there.
+fn shrink(updates: &mut VecDeque<Parts>)
+    ensures { updates.new.items ≡ updates.old.items }
+{
+    if updates.capacity() > updates.len().saturating_add(SPARE) {
+        updates.shrink_to_fit();
+    }
+}
+
 impl<F: FutureTimes> Regions<F> {
     // The process sleeps until a time, or nobody does and the time becomes a future one.
     fn sleep_until(&mut self, at: u128, sleeper: Option<u32>) -> Result<(), NoMemory>
@@ -100,6 +112,14 @@ impl<F: FutureTimes> Regions<F> {
                 Some(update)
             }
         }
+    }
+
+    /// Lists of updates give back their room, where it is for more than four that aren't there; what the queue holds is as it was.
+    pub fn shrink_to_fit(&mut self)
+        ensures { self.new ≡ self.old }
+    {
+        shrink(&mut self.activated);
+        shrink(&mut self.posted);
     }
 
     // The first activated update, which is taken out.

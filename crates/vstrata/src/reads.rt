@@ -62,7 +62,7 @@ impl<F: FutureTimes> Regions<F> {
         self.strobes.is_empty()
     }
 
-    /// How many choices there were, if these processes were the active ones.
+    /// How many choices there would be if these processes were the active ones.
     pub fn count_among(&self, active: &ProcessSet) -> u32
         ensures exact { result ≡ length (active_choices (record self.now { active = active.now })) }
         ensures few { result ≤ 258 }
@@ -70,7 +70,7 @@ impl<F: FutureTimes> Regions<F> {
         choice_count(self.last, active, &self.activated)
     }
 
-    /// The choice of this number, if there were one, if these processes were the active ones.
+    /// Choice `i` of these, if there is one.
     pub fn choice_among(&self, active: &ProcessSet, i: u32) -> Option<Choice>
         ensures exact { result ≡ slice_get (active_choices (record self.now { active = active.now })) i }
         ensures few { ForSome result IsWithin }

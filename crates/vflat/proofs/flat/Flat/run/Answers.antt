@@ -1,18 +1,11 @@
-use Rattle.std.proofs.Common.{sym, ap, ◌∙◌}
-use Rattle.vmodel.specs.Step.{environment_of}
-use Rattle.vflat.specs.Flat.{Flat, held_by}
-use Rattle.vflat.specs.InnerFlat.{finish}
-use Rattle.vflat.proofs.FlatLemmas.{ran_flat}
+use Rattle.std.proofs.Common.{refl}
+use Rattle.basis.proofs.Results.{on_ok}
+use Rattle.vflat.proofs.RowLemmas.{ran_row}
 use Rattle.vflat.proofs.flat.Flat.run.Goals as goal
 
-pub returns-clause-ok : goal.returns-clause-ok
-returns-clause-ok c =
-    let course = c.in_ok-course.course in
-    let effect = c.effect_at.new.effect in
-    ran_flat c.args.design.now c.args.code.now c.args.process c.in-Some.frame c.in-Some.action.now c.held_by-held.result c.environment-environment.result course.then course.next.now effect
-    c.turns_left-left.result c.args.self.now c.in-Some.ensures.0 c.in-Some.ensures.1
-    (c.held_by-held.ensures ∙ ap (λ held. held_by held c.args.process) c.deref.ensures.value ∙ ap (λ (f : Flat). held_by f.held c.args.process) c.self.view_is)
-    (c.environment-environment.ensures ∙ ap (λ (f : Flat). environment_of c.args.design.now f.rest) c.self.view_is)
-    c.in_ok-course.ensures c.turns_left-left.ensures
-    ∙ ap (finish c.args.code.now effect) (sym c.in_ok-place.ensures.ok)
-    ∙ sym c.finish.ensures
+pub returns-in-Some-row-clause-ok : goal.returns-in-Some-row-clause-ok
+returns-in-Some-row-clause-ok c =
+    on_ok c.run_row.result
+    (λ after. ran_row c.args.design.now c.args.code.now c.args.process c.in-Some.frame c.in-Some.action.now c.in-Some-row.row.form c.in-Some-row.row.next.now c.args.self.now
+    c.run_row.new.self c.run_row.new.effect c.run_row.new.monitors.items c.in-Some.ensures.0 c.in-Some.ensures.1 (c.in-Some-row.ensures c.in-Some-row.row refl) after)
+    c.run_row.ensures.ok
