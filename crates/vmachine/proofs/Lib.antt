@@ -1,3 +1,4 @@
+mod ChoiceLemmas
 mod StandLemmas
 mod RunProgressLemmas
 mod SlotLemmas

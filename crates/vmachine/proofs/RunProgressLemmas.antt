@@ -1,5 +1,5 @@
 -- A run under a log on its way.
-use Rattle.std.proofs.Common.{◌≡◌, ◌≢◌, ℕ, ◌+◌, ◌<◌, ◌≤◌, ◌==◌, true, false, List, [], ◌∷◌, ◌++◌, length, take, Result, Ok, Err, IfErr, IsErrAnd, refl, inl, inr, le_refl, sym, ap, subst, ◌∙◌, add-one, arith}
+use Rattle.std.proofs.Common.{◌≡◌, ◌≢◌, ℕ, ◌+◌, ◌-◌, ◌<◌, ◌≤◌, ◌==◌, true, false, List, [], ◌∷◌, ◌++◌, length, take, Result, Ok, Err, IfErr, IsErrAnd, refl, inl, inr, le_refl, sym, ap, subst, ◌∙◌, add-one, arith}
 use Rattle.std.proofs.lemmas.Bool.Decides.{nat_tests}
 use Rattle.sched_core.specs.Rules.{stands, choice_at, NamesBelow}
 use Rattle.sched_core.specs.Logs.{IsLogFrom}
@@ -129,3 +129,7 @@ ended_at_mark setting log rest steps n state end here done =
 
 pub less_differs : (m n : ℕ) → m < n → m ≢ n
 less_differs m n lt e = absurd (omega (arith, lt, e))
+
+-- each step leaves fewer of those that are allowed
+pub fewer_left : (n steps : ℕ) → n < steps → steps - (n + 1) < steps - n
+fewer_left n steps lt = omega (arith, lt)

@@ -1,5 +1,5 @@
 -- States of a machine and of a run, step by step.
-use Rattle.std.proofs.Common.{◌≡◌, ℕ, true, List, length, refl, sym, ap, subst}
+use Rattle.std.proofs.Common.{◌≡◌, ℕ, true, List, length, refl, sym, ap, subst, ◌∙◌}
 use Rattle.sched_core.specs.Rules.{IsRun, stands}
 use Rattle.vmodel.specs.State.{State, without_processes}
 use Rattle.vmodel.specs.Choices.{choices}
@@ -101,6 +101,10 @@ seen setting s t h = read_so setting s t h
 
 pub widths_read : (setting : Setting) (s : MachineState) (t : State) → Stands setting s t → length (choices (rest_in s)) ≡ length (choices t)
 widths_read setting s t h = ap (λ (u : State). length (choices u)) (seen setting s t h)
+
+-- and so has what was read of it
+pub as_many : (setting : Setting) (s : MachineState) (r t : State) → r ≡ rest_in s → Stands setting s t → length (choices r) ≡ length (choices t)
+as_many setting s r t is h = ap (λ (u : State). length (choices u)) is ∙ widths_read setting s t h
 
 pub marks_read : (setting : Setting) (s : MachineState) (t : State) → Stands setting s t → is_mark (rest_in s) ≡ is_mark t
 marks_read setting s t h = ap is_mark (seen setting s t h)

@@ -7,8 +7,8 @@ use Rattle.vmodel.specs.State.{State}
 use Rattle.vflat.specs.Representations.{Representation, plain, fast}
 
 abbrev pub representation_of : Kept → Representation
-representation_of (Plain state) = plain state
-representation_of (Fast flat) = fast flat
+representation_of (Plain state) = plain state.value
+representation_of (Fast flat) = fast flat.value
 
 abbrev pub state_of_rest : KeptRest → State
 state_of_rest (rests.Plain state) = state.now

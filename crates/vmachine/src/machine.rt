@@ -148,9 +148,9 @@ impl Machine {
         ensures { IfOk result (λ s. s ≡ representation_of_opening (code_of self.now.design) (opening_of self.now)) }
     {
         if self.code.whole {
-            Ok(MachineState::flat(self.opening_flat()?))
+            MachineState::flat(self.alloc, self.opening_flat()?)
         } else {
-            Ok(MachineState::plain(self.opening_state()?))
+            MachineState::plain(self.alloc, self.opening_state()?)
         }
     }
 }
@@ -177,7 +177,9 @@ impl Space for Machine {
     }
 
     fn step(&self, s: &mut MachineState, i: u32) -> Result<(), NoMemory> {
-        s.go(&self.design, &self.code, i)
+        s.go(&self.design, &self.code, i)?;
+        s.shrink_to_fit();
+        Ok(())
     }
 
     fn is_mark(&self, s: &MachineState) -> bool {

@@ -16,11 +16,11 @@ use vflat::Flat;
 use vmodel::State;
 use vmodel::effect::Effect;
 
-/// How a state is kept: as it is, or flat.
+/// How a state is kept: as it is, or flat. It stands behind a box, so that tables of states are small.
 #[derive(Drop)]
 pub(crate) enum Kept {
-    Plain(State),
-    Fast(Flat),
+    Plain(Box<State>),
+    Fast(Box<Flat>),
 }
 
 /// Where a run stands. What it holds is the machine's own: the calls of `Machine` read it.
@@ -49,8 +49,8 @@ impl PartialEq for MachineState {
 
     fn eq(&self, other: &MachineState) -> bool {
         match (&self.kept, &other.kept) {
-            (Kept::Plain(state), Kept::Plain(same)) => state == same,
-            (Kept::Fast(flat), Kept::Fast(same)) => flat == same,
+            (Kept::Plain(state), Kept::Plain(same)) => **state == **same,
+            (Kept::Fast(flat), Kept::Fast(same)) => **flat == **same,
             _ => false,
         }
     }
@@ -78,22 +78,22 @@ impl Hash for MachineState {
 }
 
 impl MachineState {
-    /// A state that is kept as it is.
-    pub(crate) fn plain(state: State) -> MachineState
-        ensures { result ≡ plain state }
+    /// A state that is kept as it is. The error is want of memory, E901, as below.
+    pub(crate) fn plain(alloc: Global, state: State) -> Result<MachineState, NoMemory>
+        ensures { IfOk result (λ s. s ≡ plain state) }
     {
-        MachineState {
-            kept: Kept::Plain(state),
-        }
+        Ok(MachineState {
+            kept: Kept::Plain(Box::new(alloc, state)?),
+        })
     }
 
     /// A state that is kept flat.
-    pub(crate) fn flat(flat: Flat) -> MachineState
-        ensures { result ≡ fast flat }
+    pub(crate) fn flat(alloc: Global, flat: Flat) -> Result<MachineState, NoMemory>
+        ensures { IfOk result (λ s. s ≡ fast flat) }
     {
-        MachineState {
-            kept: Kept::Fast(flat),
-        }
+        Ok(MachineState {
+            kept: Kept::Fast(Box::new(alloc, flat)?),
+        })
     }
 
     /// A state that is the same.
@@ -101,8 +101,8 @@ impl MachineState {
         ensures { IfOk result (λ s. s ≡ self.now) }
     {
         let kept = match &self.kept {
-            Kept::Plain(state) => Kept::Plain(state.copy(alloc)?),
-            Kept::Fast(flat) => Kept::Fast(flat.copy(alloc)?),
+            Kept::Plain(state) => Kept::Plain(Box::new(alloc, state.copy(alloc)?)?),
+            Kept::Fast(flat) => Kept::Fast(Box::new(alloc, flat.copy(alloc)?)?),
         };
         Ok(MachineState { kept })
     }
@@ -116,6 +116,16 @@ impl MachineState {
         match &mut self.kept {
             Kept::Plain(state) => state.go(design, i),
             Kept::Fast(flat) => flat.go(design, code, i),
+        }
+    }
+
+    /// Lists of updates give back room that they don't need, so that a state that an explorer keeps is small; it holds what it held.
+    pub(crate) fn shrink_to_fit(&mut self)
+        ensures { self.new ≡ self.old }
+    {
+        match &mut self.kept {
+            Kept::Plain(_) => {}
+            Kept::Fast(flat) => flat.shrink_to_fit(),
         }
     }
 

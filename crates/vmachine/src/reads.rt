@@ -35,13 +35,6 @@ fn slot_at(state: &Rest<'_>) -> Option<u64>
 }
 
 impl Machine {
-    /// How many choices the state has, as the state of the run has that it stands for.
-    pub(crate) fn width_of(&self, s: &MachineState) -> u32
-        ensures { (t : State) → Stands self.now s.now t → result ≡ length (choices t) }
-    {
-        s.rest().width()
-    }
-
     /// The time and the cause of the run's end, if it ends here.
     pub(crate) fn last_of(&self, s: &MachineState) -> End
         ensures { (t : State) → Stands self.now s.now t → result ≡ end_of t }

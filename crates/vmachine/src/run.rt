@@ -1,6 +1,6 @@
 // The run of a machine under a log, handed on slot by slot, or kept whole.
 
-ghost use Rattle.std.specs.Prelude.{◌≡◌, ℕ, List, [], ◌++◌, true, Decides, length, IfOk, IfErr, OnOk, IsSome, false};
+ghost use Rattle.std.specs.Prelude.{◌≡◌, ◌≢◌, ◌<◌, ℕ, List, [], ◌++◌, true, Decides, length, IfOk, IfErr, OnOk, IsSome, false};
 ghost use Rattle.basis.specs.Reasons.{IfFault};
 ghost use Rattle.basis.specs.declared.memory.OrMemory.TheVariants.{Fault};
 ghost use Rattle.vmachine.specs.declared.run.RunFault.TheVariants.{Replay};
@@ -191,19 +191,35 @@ struct Chosen<'l> {
     later: &'l [Member],
 }
 
-// What comes next after `n` steps, where there are so many choices: one of them, or none where the run has ended as its log has it.
+// Whether the run goes on: it does within a slot, and else where there is a choice.
+#[tactic(auto, using(crate::proofs::ChoiceLemmas::goes_on_within))]
+fn goes_on(state: &Rest<'_>) -> bool
+    ensures { Decides result (length (choices state.now) ≢ 0) }
+{
+    !state.is_mark() || state.width() > 0
+}
+
+// Whether there is a choice of this number, where the run goes on.
+fn has_choice(state: &Rest<'_>, choice: u32) -> bool
+    requires { length (choices state.now) ≢ 0 }
+    ensures { Decides result (choice < length (choices state.now)) }
+{
+    choice == 0 || choice < state.width()
+}
+
+// What comes next after `n` steps: a choice of the state, or none where the run has ended as its log has it.
 fn choose<'l>(
-    width: u32,
+    state: &Rest<'_>,
     rest: &'l [Member],
     n: u32,
     steps: u32,
 ) -> Result<Option<Chosen<'l>>, ReplayFault>
     requires { IsLogFrom n rest.now }
-    ensures { (setting : Setting) (log : List (ℕ × ℕ)) (state : State) →
-        IsAt setting log rest.now steps n state → width ≡ length (choices state) →
-        IsChosen setting log steps n state rest.now result }
+    ensures { (setting : Setting) (log : List (ℕ × ℕ)) (t : State) →
+        IsAt setting log rest.now steps n t → length (choices state.now) ≡ length (choices t) →
+        IsChosen setting log steps n t rest.now result }
 {
-    if width == 0 {
+    if !goes_on(state) {
         return if rest.is_empty() {
             Ok(None)
         } else {
@@ -214,7 +230,7 @@ fn choose<'l>(
         return Err(ReplayFault::TooManySteps);
     }
     let (choice, later) = next_choice(rest, n);
-    if choice < width {
+    if has_choice(state, choice) {
         Ok(Some(Chosen { choice, later }))
     } else {
         Err(ReplayFault::NoSuchChoice)
@@ -282,7 +298,7 @@ impl Machine {
             if may_pause && none_waits(&run.pending) && sink.is_full() {
                 return Ok(None);
             }
-            let chosen = match choose(self.width_of(&run.state), run.rest, run.n, steps) {
+            let chosen = match choose(&run.state.rest(), run.rest, run.n, steps) {
                 Ok(Some(chosen)) => chosen,
                 Ok(None) => return Ok(Some(self.last_of(&run.state))),
                 Err(fault) => return Err(replay_refusal(fault)),
@@ -366,7 +382,7 @@ impl Machine {
         let mut rest = run.rest;
         let mut n = run.n;
         'walk: loop {
-            let chosen = match choose(self.width_of(&state), rest, n, steps) {
+            let chosen = match choose(&state.rest(), rest, n, steps) {
                 Ok(Some(chosen)) => chosen,
                 Ok(None) => return Ok(self.last_of(&state)),
                 Err(fault) => return Err(OrMemory::Fault(fault)),
@@ -415,7 +431,7 @@ impl Machine {
         let mut rest = log.members();
         let mut n = 0;
         'walk: loop {
-            let chosen = match choose(state.width(), rest, n, steps) {
+            let chosen = match choose(&Rest::plain(&state), rest, n, steps) {
                 Ok(Some(chosen)) => chosen,
                 Ok(None) => {
                     let values = Values::from_slice(self.alloc, state.values())?;

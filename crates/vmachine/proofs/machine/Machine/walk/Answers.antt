@@ -1,15 +1,17 @@
-use Rattle.std.proofs.Common.{◌≡◌, ◌≢◌, ◌+◌, List, [], ◌++◌, length, Option, Some, None, Ok, sym, ap, subst, ◌∙◌, append-nil, arith}
+use Rattle.std.proofs.Common.{◌≡◌, ◌≢◌, ℕ, ◌+◌, List, [], ◌++◌, length, Option, Some, None, Ok, Err, sym, ap, subst, ◌∙◌, append-nil, arith}
+use Rattle.basis.specs.Reasons.{Because}
 use Rattle.basis.specs.declared.memory.OrMemory.{OrMemory}
 use Rattle.basis.specs.declared.memory.OrMemory.TheVariants.{Memory}
 use Rattle.vmodel.specs.declared.history.Item.{Item}
 use Rattle.vmodel.specs.InnerStep.{transition_to}
 use Rattle.vmodel.specs.Step.{Transition, next, items_of}
 use Rattle.vdesign.specs.Design.{Design}
-use Rattle.vmodel.specs.Run.{Setting, items_after, is_mark}
+use Rattle.vmodel.specs.Run.{Setting, rules_of, items_after, is_mark}
 use Rattle.vmodel.specs.RunProgress.{Finishes}
 use Rattle.vmachine.specs.declared.run.Chosen.{Chosen}
 use Rattle.vmachine.specs.declared.run.RunFault.{RunFault}
-use Rattle.vmachine.specs.Handed.{LeavesSink, TakesEach, by_slot}
+use Rattle.sched_core.specs.Replay.{IsReplayReason}
+use Rattle.vmachine.specs.Handed.{IsNoSuchRun, LeavesSink, TakesEach, by_slot}
 use Rattle.vmachine.specs.Inner.{IsAt, IsChosen, HandsOn}
 use Rattle.vcompile.specs.CodeOf.{code_of}
 use Rattle.vflat.specs.Representations.{rest_in, representation_next, representation_to}
@@ -23,9 +25,9 @@ use Rattle.vmodel.specs.State.{State}
 use Rattle.vmodel.specs.Touched.{ChangesOnlySince}
 use Rattle.vmodel.proofs.TouchedLemmas.{changes_more}
 use Rattle.vflat.proofs.TouchedLemmas.{step_writes}
-use Rattle.vmachine.proofs.StandLemmas.{next_read}
+use Rattle.vmachine.proofs.StandLemmas.{as_many, next_read}
 use Rattle.vmachine.proofs.GivenLemmas.{gave_more, taken_on}
-use Rattle.vmachine.proofs.RunProgressLemmas.{at_next, items_next, underway, handed_first, left_by, sink_left, ended_at_mark, less_differs}
+use Rattle.vmachine.proofs.RunProgressLemmas.{at_next, items_next, underway, handed_first, left_by, sink_left, ended_at_mark, less_differs, fewer_left}
 use Rattle.vmodel.specs.Choices.{choices}
 use Rattle.vmachine.proofs.SlotLemmas.{handed_on, emptied, waits_more, items_wait}
 use Rattle.vmachine.proofs.machine.Machine.walk.Goals as goal
@@ -72,7 +74,7 @@ returns-in-Ok-None-clause-ends g c = λ first start.
     let after = taken_on g.S.HistorySink.takes g.met.S.HistorySink.joins (is_mark now) first c.walk.sink c.hand.new.sink given.handed (waiting c.walk.run)
     (waiting_in c.hand.new.pending (rest_in c.walk.run.state)) given.taken on in
     let chosen : IsChosen setting log c.args.steps c.walk.run.n now c.walk.run.rest.now (Ok None) =
-    subst (IsChosen setting log c.args.steps c.walk.run.n now c.walk.run.rest.now) (c.in-Ok-None.is ∙ ap (λ (o : Option Chosen). Ok o) c.in-Ok-None.field-0-is) (c.choose.ensures setting log now here (c.width_of.ensures now c.walk.invariant.0.stands)) in
+    subst (IsChosen setting log c.args.steps c.walk.run.n now c.walk.run.rest.now) (c.in-Ok-None.is ∙ ap (λ (o : Option Chosen). Ok o) c.in-Ok-None.field-0-is) (c.choose.ensures setting log now here (as_many setting c.walk.run.state c.rest-in-walk.result now c.rest-in-walk.ensures c.walk.invariant.0.stands)) in
     let nothing : (waiting_in c.hand.new.pending (rest_in c.walk.run.state)) ≡ [] =
     emptied g.S.HistorySink.takes (is_mark now) c.walk.sink c.hand.new.sink (waiting c.walk.run) (waiting_in c.hand.new.pending (rest_in c.walk.run.state))
     (ended_at_mark setting log c.walk.run.rest.now c.args.steps c.walk.run.n now _ here chosen) on in
@@ -96,7 +98,7 @@ returns-in-Ok-None-clause-slots g c = λ first start.
     handed_on g.S.HistorySink.takes g.met.S.HistorySink.joins now first c.walk.sink c.hand.new.sink given.so.handed (waiting_in c.hand.new.pending (rest_in c.walk.run.state))
     given.so.taken given.each given.cut (waiting c.walk.run) given.waits on in
     let chosen : IsChosen setting log c.args.steps c.walk.run.n now c.walk.run.rest.now (Ok None) =
-    subst (IsChosen setting log c.args.steps c.walk.run.n now c.walk.run.rest.now) (c.in-Ok-None.is ∙ ap (λ (o : Option Chosen). Ok o) c.in-Ok-None.field-0-is) (c.choose.ensures setting log now here (c.width_of.ensures now c.walk.invariant.0.stands)) in
+    subst (IsChosen setting log c.args.steps c.walk.run.n now c.walk.run.rest.now) (c.in-Ok-None.is ∙ ap (λ (o : Option Chosen). Ok o) c.in-Ok-None.field-0-is) (c.choose.ensures setting log now here (as_many setting c.walk.run.state c.rest-in-walk.result now c.rest-in-walk.ensures c.walk.invariant.0.stands)) in
     let nothing : (waiting_in c.hand.new.pending (rest_in c.walk.run.state)) ≡ [] =
     emptied g.S.HistorySink.takes (is_mark now) c.walk.sink c.hand.new.sink (waiting c.walk.run) (waiting_in c.hand.new.pending (rest_in c.walk.run.state))
     (ended_at_mark setting log c.walk.run.rest.now c.args.steps c.walk.run.n now _ here chosen) on in
@@ -165,7 +167,7 @@ walk-preserved g c =
     hands_there g.S.HistorySink.takes c.args.self.now c.walk.run.state now c.rest.result c.walk.sink c.hand.new.sink c.walk.run.pending c.hand.new.pending c.walk.invariant.0.stands c.rest.ensures c.in_ok-hand.ensures.ok in
     let chosen : IsChosen setting log c.args.steps c.walk.run.n now c.walk.run.rest.now (Ok (Some c.in-Ok-Some.chosen)) =
     subst (IsChosen setting log c.args.steps c.walk.run.n now c.walk.run.rest.now) (c.in-Ok-Some.is ∙ ap (λ (o : Option Chosen). Ok o) c.in-Ok-Some.field-0-is)
-    (c.choose.ensures setting log now here (c.width_of.ensures now stands)) in
+    (c.choose.ensures setting log now here (as_many setting c.walk.run.state c.rest-in-walk.result now c.rest-in-walk.ensures stands)) in
     let choice = c.in-Ok-Some.chosen.choice in
     let later = c.in-Ok-Some.chosen.later.now in
     let effect = c.step_into.new.effect in
@@ -183,9 +185,9 @@ walk-preserved g c =
     let goes_on : length (choices now) ≢ 0 = λ none. absurd (omega (arith, none, chosen.1)) in
     let after_rest : State = rest_in c.step_into.new.self in
     let more : waiting_in c.put_pending.new.pending after_rest ≡ waiting_in c.hand.new.pending (rest_in c.walk.run.state) ++ items_of setting.design transition =
-    waits_there setting.design c.hand.new.pending c.put_pending.new.pending (rest_in c.walk.run.state) after_rest c.rest-in-walk.result effect monitors transition
-    c.in_ok-hand.ensures.due c.rest-in-walk.ensures (subst (λ (d : Design). waiting_in c.put_pending.new.pending c.rest-in-walk.result
-    ≡ c.hand.new.pending.items.items ++ items_of d (transition_to c.rest-in-walk.result effect monitors)) design
+    waits_there setting.design c.hand.new.pending c.put_pending.new.pending (rest_in c.walk.run.state) after_rest c.rest-in-walk-2.result effect monitors transition
+    c.in_ok-hand.ensures.due c.rest-in-walk-2.ensures (subst (λ (d : Design). waiting_in c.put_pending.new.pending c.rest-in-walk-2.result
+    ≡ c.hand.new.pending.items.items ++ items_of d (transition_to c.rest-in-walk-2.result effect monitors)) design
     c.in_ok-put_pending.ensures.waits) read.1 in
     let wrote : after_rest.values ≡ with_parts effect.wrote (rest_in c.walk.run.state).values =
     step_writes setting.design (code_of setting.design) c.walk.run.state c.step_into.new.self choice effect monitors stepped in (
@@ -193,7 +195,7 @@ walk-preserved g c =
         so = subst (IsAt setting log later c.args.steps (c.walk.run.n + 1)) at.at at;
         stands = subst (Stands setting c.step_into.new.self) at.at read.0;
         no_end = c.in_ok-put_pending.ensures.no_end c.in_ok-hand.ensures.no_end;
-        due = λ due. ap is_mark (sym c.rest-in-walk.ensures) ∙ c.in_ok-put_pending.ensures.due due;
+        due = λ due. ap is_mark (sym c.rest-in-walk-2.ensures) ∙ c.in_ok-put_pending.ensures.due due;
       },
       c.walk.invariant.1,
       λ first start.
@@ -232,3 +234,35 @@ walk-preserved g c =
 pub hand-requires-clause-since : goal.hand-requires-clause-since
 hand-requires-clause-since g c =
     subst (λ (r : State). ChangesOnlySince c.walk.touched (g.S.HistorySink.kept c.walk.sink) r.values) (sym c.rest.ensures) c.walk.invariant.4
+
+pub returns-in-Err-clause-reason : goal.returns-in-Err-clause-reason
+returns-in-Err-clause-reason g c =
+    let setting = c.args.self.now in
+    let log = c.walk.run.log.now in
+    let now = state_of setting c.walk.run in
+    let chosen : IsChosen setting log c.args.steps c.walk.run.n now c.walk.run.rest.now (Err c.in-Err.fault) =
+    subst (IsChosen setting log c.args.steps c.walk.run.n now c.walk.run.rest.now) c.in-Err.is
+    (c.choose.ensures setting log now c.walk.invariant.0.so (as_many setting c.walk.run.state c.rest-in-walk.result now c.rest-in-walk.ensures c.walk.invariant.0.stands)) in
+    let reason : IsReplayReason (rules_of setting) c.args.run.now.log.now c.args.steps c.in-Err.fault =
+    subst (λ (l : List (ℕ × ℕ)). IsReplayReason (rules_of setting) l c.args.steps c.in-Err.fault) c.walk.invariant.1 chosen in
+    subst (λ (e : OrMemory (RunFault _)). Because (IsNoSuchRun setting c.args.run.now.log.now c.args.steps) e) (sym c.replay_refusal.ensures) reason
+
+pub overflow_add-run : goal.overflow_add-run
+overflow_add-run g c =
+    let setting = c.args.self.now in
+    let log = c.walk.run.log.now in
+    let now = state_of setting c.walk.run in
+    let chosen : IsChosen setting log c.args.steps c.walk.run.n now c.walk.run.rest.now (Ok (Some c.in-Ok-Some.chosen)) =
+    subst (IsChosen setting log c.args.steps c.walk.run.n now c.walk.run.rest.now) (c.in-Ok-Some.is ∙ ap (λ (o : Option Chosen). Ok o) c.in-Ok-Some.field-0-is)
+    (c.choose.ensures setting log now c.walk.invariant.0.so (as_many setting c.walk.run.state c.rest-in-walk.result now c.rest-in-walk.ensures c.walk.invariant.0.stands)) in
+    omega (arith, chosen.0, c.ranges.steps.fits)
+
+pub walk-smaller : goal.walk-smaller
+walk-smaller g c =
+    let setting = c.args.self.now in
+    let log = c.walk.run.log.now in
+    let now = state_of setting c.walk.run in
+    let chosen : IsChosen setting log c.args.steps c.walk.run.n now c.walk.run.rest.now (Ok (Some c.in-Ok-Some.chosen)) =
+    subst (IsChosen setting log c.args.steps c.walk.run.n now c.walk.run.rest.now) (c.in-Ok-Some.is ∙ ap (λ (o : Option Chosen). Ok o) c.in-Ok-Some.field-0-is)
+    (c.choose.ensures setting log now c.walk.invariant.0.so (as_many setting c.walk.run.state c.rest-in-walk.result now c.rest-in-walk.ensures c.walk.invariant.0.stands)) in
+    fewer_left c.walk.run.n c.args.steps chosen.0
