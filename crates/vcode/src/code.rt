@@ -81,15 +81,6 @@ fn turns_by(turns: &[u64], counter: usize) -> u64
     }
 }
 
-// So many are left by it.
-fn set_counter(turns: &mut [u64], counter: usize, left: u64)
-    ensures { turns.new ≡ spec.with_counter (Some counter) left turns.old }
-{
-    if counter < turns.len() {
-        turns[counter] = left;
-    }
-}
-
 impl Code {
     /// The point at which this process begins.
     pub fn begin(&self, process: usize) -> Point
@@ -101,8 +92,8 @@ impl Code {
         }
     }
 
-    // The number of the counter of this place.
-    fn counter(&self, place: usize) -> Option<u32>
+    /// The number of the counter of this place, where a `repeat` stands.
+    pub fn counter(&self, place: usize) -> Option<u32>
         ensures { result ≡ spec.counter_at self.now place }
     {
         match self.counters.get(place) {
@@ -118,16 +109,6 @@ impl Code {
         match self.counter(place) {
             None => 0,
             Some(counter) => turns_by(turns, counter as usize),
-        }
-    }
-
-    /// From here on so many turns are left at this place.
-    pub fn set_turns(&self, turns: &mut [u64], place: usize, left: u64)
-        ensures { turns.new ≡ spec.with_turns self.now place left turns.old }
-    {
-        match self.counter(place) {
-            None => {}
-            Some(counter) => set_counter(turns, counter as usize, left),
         }
     }
 

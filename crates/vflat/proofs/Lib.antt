@@ -1,4 +1,5 @@
 mod PointLemmas
+mod ShareLemmas
 mod OperandLemmas
 mod FlatLemmas
 mod RowLemmas

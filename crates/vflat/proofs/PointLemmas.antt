@@ -1,20 +1,10 @@
--- Points that are read and set, and counters set back.
-use Rattle.std.proofs.Common.{◌≡◌, ℕ, zero, suc, ◌<◌, true, List, [], ◌∷◌, length, Option, None, Some, refl, ap, arith}
+-- Counters that are set back, and events that are heard.
+use Rattle.std.proofs.Common.{◌≡◌, ℕ, zero, suc, true, List, [], ◌∷◌, Option, None, Some, refl, ap, arith}
 use Rattle.std.specs.Prelude.{slice_get, slice_set, unwrap_or}
 use Rattle.std.proofs.lemmas.Bool.Decides.{nat_tests}
-use Rattle.vcode.specs.declared.point.Point.{Point}
-use Rattle.vcode.specs.declared.point.Point.TheVariants as point
-use Rattle.vcode.specs.Points.{is_same_point}
 use Rattle.vcode.specs.Code.{Code, counter_at, turns_by, turns_at, with_counter}
 use Rattle.vmodel.specs.Waking.{is_triggered}
-use Rattle.vflat.specs.Flat.{point_in}
 use Rattle.vflat.specs.InnerFlat.{with_left}
-
--- a process that waits is there
-pub waits_within : (points : List Point) (process place : ℕ) → is_same_point (point_in points process) (point.Waiting place) ≡ true → process < length points
-waits_within [] process place e = absurd cc
-waits_within (one ∷ points) zero place e = omega arith
-waits_within (one ∷ points) (suc process) place e = let h = waits_within points process place e in omega (arith, h)
 
 back_by : (turns : List ℕ) (counter n : ℕ) → slice_set (slice_set turns counter n) counter (unwrap_or (slice_get turns counter) 0) ≡ turns
 back_by [] counter n = refl

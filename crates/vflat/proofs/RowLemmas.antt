@@ -78,15 +78,10 @@ moved_to_sleep p delay to f = ap (λ q. record f {
 -- one that goes on behind an update that is posted
 pub moved_to_post : (p : ℕ) (part : Part) (to : Point) (f : Flat) →
     with_move p no_effect f.turns to (record f { rest = record f.rest { queue = posts_after 0 (part ∷ []) f.rest.queue } })
-    ≡ with_move p (form_effect 0 (Post part)) f.turns to f
+    ≡ with_move p (record no_effect { posted = Some (post_after 0 (part ∷ [])) }) f.turns to f
 moved_to_post p part to f = refl
 
 -- ---- the rows of actions
-
--- the turns of a `repeat` that are left, before what stands after it
-pub turns_before_rest : (place left : ℕ) (after : List Frame) → turns_left place left after ≡ behind (turns_frame place left) after
-turns_before_rest place zero after = refl
-turns_before_rest place (suc left) after = refl
 
 pub row_assigns : (now : Environment) (targets : List Target) (value : ExpressionTree) (operand : Vector) (part : Part) → operand ≡ held_value now targets value →
     resumed_parts now targets (Some operand) ≡ part ∷ [] → (place : ℕ) → IsRow (Executing place) (acts.Assign targets value) now (Assign part) []
@@ -108,40 +103,6 @@ row_drives now targets value terms operand part held is place = record {
   does = λ kept after. ap (λ parts. step_result (Some (Executing place)) [] after (record no_effect { wrote = parts; disposition = Waiting place })) (sym (held_assigned now targets value operand held) ∙ is);
   turns = λ code turns. refl;
 }
-
-pub row_tests : (now : Environment) (condition : ExpressionTree) (when_true otherwise next : List ℕ) → next ≡ (if holds now condition then when_true else otherwise) →
-    (place : ℕ) → IsRow (Executing place) (Test condition when_true otherwise) now Go next
-row_tests now condition when_true otherwise next is place = record {
-  does = λ kept after. ap (λ places. step_result None places after no_effect) (sym is);
-  turns = λ code turns. refl;
-}
-
-pub row_repeats : (now : Environment) (count : ExpressionTree) (body : List ℕ) (left : ℕ) → left ≡ turns_of now count →
-    (place : ℕ) → IsRow (Executing place) (Repeat count body) now (Turn left) []
-row_repeats now count body left is place = record {
-  does = λ kept after. ap (λ rest. record { continuation = rest; effect = no_effect }) (ap (λ n. turns_left place n after) (sym is) ∙ turns_before_rest place left after);
-  turns = λ code turns. ap (λ n. with_left code place (Some n) turns) (sym is);
-}
-
-pub row_turns : (now : Environment) (count : ExpressionTree) (body : List ℕ) (n left : ℕ) → left ≡ n - 1 →
-    (place : ℕ) → IsRow (Repeating place n) (Repeat count body) now (Turn left) body
-row_turns now count body n left is place = record {
-  does = λ kept after. ap (λ rest. record { continuation = frames body rest; effect = no_effect }) (ap (λ m. turns_left place m after) (sym is) ∙ turns_before_rest place left after);
-  turns = λ code turns. ap (λ m. with_left code place (Some m) turns) (sym is);
-}
-
-pub row_sleeps : (now : Environment) (amount : ExpressionTree) (body : List ℕ) (delay : ℕ) → delay ≡ delay_of now amount →
-    (place : ℕ) → IsRow (Executing place) (Delay amount body) now (Sleep delay) body
-row_sleeps now amount body delay is place = record {
-  does = λ kept after. ap (λ d. step_result None body after (record no_effect { disposition = Delayed d })) (sym is);
-  turns = λ code turns. refl;
-}
-
-pub row_loops : (now : Environment) (body : List ℕ) (place : ℕ) → IsRow (Executing place) (Forever body) now Loop body
-row_loops now body place = record { does = λ kept after. refl; turns = λ code turns. refl }
-
-pub row_waits : (now : Environment) (terms : List Term) (body : List ℕ) (place : ℕ) → IsRow (Executing place) (EventControl terms body) now Wait body
-row_waits now terms body place = record { does = λ kept after. refl; turns = λ code turns. refl }
 
 pub unwrapped : (row told : Row) → Some row ≡ Some told → row ≡ told
 unwrapped row told is = ap (λ o. unwrap_or o row) is

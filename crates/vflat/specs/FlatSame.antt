@@ -13,7 +13,8 @@ use Rattle.vcode.specs.declared.point.Point.{Point}
 use Rattle.vcode.specs.declared.point.Point.TheVariants.{Ended, Executing, Repeating, Writing, Waiting}
 use Rattle.vcode.specs.Points.{is_same_point}
 use Rattle.vkernel.specs.KernelFed.{kernel_fed}
-use Rattle.vmodel.specs.Digest.{digest_with, digest_of_numbers}
+use Rattle.vkernel.specs.Sums.{share, sum_from}
+use Rattle.vmodel.specs.Digest.{digest_with}
 use Rattle.vmodel.specs.Same.{state_same}
 use Rattle.vmodel.specs.SameLaws.{states_tell}
 use Rattle.vflat.specs.Flat.{Flat}
@@ -64,13 +65,21 @@ point_word (Repeating place) = place + 1
 point_word (Writing place) = place + 1
 point_word (Waiting place) = place + 2 ^ 32
 
-abbrev pub digest_of_points : ℕ → List Point → ℕ
-digest_of_points word [] = word
-digest_of_points word (point ∷ points) = digest_of_points (digest_with word (point_word point)) points
+abbrev pub point_share : ℕ → Point → ℕ
+point_share process point = share process (point_word point) 0
+
+abbrev pub points_sum : List Point → ℕ
+points_sum = sum_from point_share 0
+
+abbrev pub turns_share : ℕ → ℕ → ℕ
+turns_share counter left = share counter left 0
+
+abbrev pub turns_sum : List ℕ → ℕ
+turns_sum = sum_from turns_share 0
 
 -- what is no process's, and then where the processes stand and how many turns are left
 abbrev pub flat_fed : Flat → fed.HashWrites
-flat_fed f = kernel_fed f.rest ++ fed.u64 (digest_of_numbers (digest_of_points 0 f.points) f.turns)
+flat_fed f = kernel_fed f.rest ++ fed.u64 (digest_with (digest_with 0 (points_sum f.points)) (turns_sum f.turns))
 
 pub flats_fed_alike : (f g : Flat) → flat_same f g ≡ true → flat_fed f ≡ flat_fed g
 flats_fed_alike f g h = ap flat_fed ((flats_tell f g).0 h)

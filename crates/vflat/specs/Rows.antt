@@ -13,6 +13,7 @@ use Rattle.vmodel.specs.InnerStep.{step_result}
 use Rattle.vmodel.specs.Step.{place_of, execute_at, post_after}
 use Rattle.vcompile.specs.Laws.{turns_behind}
 use Rattle.vflat.specs.declared.row.Form.{Form}
+use Rattle.vflat.specs.declared.row.Row.{Row}
 use Rattle.vflat.specs.declared.row.Form.TheVariants.{Assign, Drive, Post, Go, Loop, Turn, Wait, Sleep}
 use Rattle.vflat.specs.Flat.{Flat}
 use Rattle.vflat.specs.InnerFlat.{with_left, place_process, finish, flat_to}
@@ -60,6 +61,14 @@ pub record IsRow (frame : Frame) (action : Action) (now : Environment) (form : F
   pub does : (held : Option Vector) (after : List Frame) →
       execute_at frame action after held now ≡ step_result (form_then (place_of frame) form) next after (form_effect (place_of frame) form)
   pub turns : (code : Code) (turns : List ℕ) → turns_behind code frame action now turns ≡ with_left code (place_of frame) (form_left form) turns
+
+-- the row is of the action, at whichever place that stands
+abbrev pub IsRowAt : Action → Environment → Row → Type 0
+IsRowAt action now row = (place : ℕ) → IsRow (Executing place) action now row.form row.next.now
+
+-- the row is of a turn of the action of which so many are left
+abbrev pub IsRowOfTurn : Action → ℕ → Row → Type 0
+IsRowOfTurn action turns row = (place : ℕ) (now : Environment) → IsRow (Repeating place turns) action now row.form row.next.now
 
 -- the flat state after a step of a form, with this effect and these monitor events
 abbrev pub IsAfterRow : Code → ℕ → Frame → Form → List ℕ → Flat → Effect → Flat → List ℕ → Type 0

@@ -1,13 +1,13 @@
 // The step of a flat state (IEEE 1364-2005, 11.3, 11.4): a process goes on by the code of the design, and who waits wakes by its lists.
 
-ghost use Rattle.std.specs.Prelude.{◌≡◌, ◌<◌, ℕ, List, [], ◌∷◌, Option, Some, None, length, slice_get, slice_set, true, IfOk, OnOk, OnErr};
+ghost use Rattle.std.specs.Prelude.{◌≡◌, ◌<◌, ℕ, List, [], ◌∷◌, Option, Some, None, slice_get, slice_set, true, IfOk, OnOk, OnErr};
 ghost use Rattle.std.specs.Option.{ForSome};
 ghost use Rattle.vcompile.specs.Laws.{turns_behind};
 ghost use Rattle.vdesign.specs.declared.action.Edge.TheVariants.{Any};
 ghost use Rattle.vdesign.specs.declared.action.Term.TheVariants.{Change};
 ghost use Rattle.vmodel.specs.InnerStep.{behind};
 ghost use Rattle.vmodel.specs.Operands.{operand as operand_of};
-ghost use Rattle.vmodel.specs.Step.{environment_of, frames, place_of};
+ghost use Rattle.vmodel.specs.Step.{environment_of, frames, place_of, post_after};
 ghost use Rattle.vcompile.specs.CodeOf.{code_of};
 ghost use Rattle.vcompile.specs.Links as links;
 ghost use Rattle.vflat.specs.Flat as spec;
@@ -23,7 +23,9 @@ ghost use Rattle.vmodel.specs.Inner.{variable_of};
 ghost use Rattle.vmodel.specs.declared.part.Part.{Part as PartOf};
 
 use crate::flat::Flat;
+use crate::points::Points;
 use crate::row::{Form, Row, row_of};
+use crate::turns::Turns;
 use basis::NoMemory;
 use std::mem;
 use vbits::Vec4;
@@ -58,16 +60,6 @@ fn is_heard(news: News, edge: Edge) -> bool
     }
 }
 
-// Where a process stands.
-fn point_in(points: &[Point], process: usize) -> Point
-    ensures { result ≡ spec.point_in points.now process }
-{
-    match points.get(process) {
-        Some(point) => *point,
-        None => Point::Ended,
-    }
-}
-
 // The value that a process holds, if it holds one (9.7.7).
 fn held_by(held: &[Option<Vec4>], process: usize) -> Option<Vec4>
     ensures { result ≡ spec.held_by held.now process }
@@ -78,16 +70,7 @@ fn held_by(held: &[Option<Vec4>], process: usize) -> Option<Vec4>
     }
 }
 
-// From here on a process stands there, if it is there.
-fn set_point(points: &mut [Point], process: usize, point: Point)
-    ensures { points.new ≡ slice_set points.old process point }
-{
-    if process < points.len() {
-        points[process] = point;
-    }
-}
-
-// From here on it holds this.
+// From here on a process holds this, if it is there.
 fn set_held(held: &mut [Option<Vec4>], process: usize, value: Option<Vec4>)
     ensures { held.new ≡ slice_set held.old process value }
 {
@@ -97,16 +80,14 @@ fn set_held(held: &mut [Option<Vec4>], process: usize, value: Option<Vec4>)
 }
 
 // Whether a listener wakes.
-#[tactic(auto, using(crate::proofs::PointLemmas::waits_within))]
-fn wakes(news: &News, listener: &Listener, points: &[Point]) -> bool
-    ensures wakes { result
+fn wakes(news: &News, listener: &Listener, points: &Points) -> bool
+    ensures { result
         ≡ spec.wakes_listener (inner.is_heard news.now listener.now.edge) listener.now points.now }
-    ensures within { result ≡ true → listener.now.process < length points.now }
 {
     if !is_heard(*news, listener.edge) {
         return false;
     }
-    let point = point_in(points, listener.process as usize);
+    let point = points.at(listener.process as usize);
     point.is_same(Point::Waiting(listener.place))
 }
 
@@ -202,12 +183,12 @@ fn turns_left(frame: Frame, action: &Action, environment: &Environment<'_>) -> O
 }
 
 // So many turns are left at a place, if it is told how many.
-fn set_left(code: &Code, turns: &mut [u64], place: usize, left: Option<u64>)
+fn set_left(code: &Code, turns: &mut Turns, place: usize, left: Option<u64>)
     ensures { turns.new ≡ with_left code.now place left turns.old }
 {
     match left {
         None => {}
-        Some(left) => code.set_turns(turns, place, left),
+        Some(left) => turns.set(code, place, left),
     }
 }
 
@@ -251,8 +232,8 @@ impl Flat {
         ensures { self.new ≡ heard_by code.now news.now (listener.now ∷ []) self.old }
     {
         if wakes(news, listener, &self.points) {
-            let point = code.settle(&self.turns, listener.resumes);
-            self.points[listener.process as usize] = point;
+            let point = code.settle(self.turns.as_slice(), listener.resumes);
+            self.points.set(listener.process as usize, point);
             self.rest.activate(listener.process);
         }
     }
@@ -363,18 +344,15 @@ impl Flat {
         ensures err { OnErr result (self.new ≡ self.old) }
     {
         let place = frame.place();
-        let before = turns_before(code, &self.turns, place, left);
+        let before = turns_before(code, self.turns.as_slice(), place, left);
         set_left(code, &mut self.turns, place, left);
-        let to = comes_to(code, &self.turns, place, next, then);
+        let to = comes_to(code, self.turns.as_slice(), place, next, then);
         if let Err(error) = self.rest.move_by(process, effect, goes_from(process, to)) {
             set_left(code, &mut self.turns, place, before);
             return Err(error);
         }
-        set_point(
-            &mut self.points,
-            process as usize,
-            stands_by(effect.disposition(), to),
-        );
+        self.points
+            .set(process as usize, stands_by(effect.disposition(), to));
         set_held(&mut self.held, process as usize, effect.held());
         Ok(())
     }
@@ -394,7 +372,7 @@ impl Flat {
         requires { process < 256 }
         ensures { self.new ≡ with_move process no_effect self.old.turns to self.old }
     {
-        set_point(&mut self.points, process as usize, to);
+        self.points.set(process as usize, to);
         set_held(&mut self.held, process as usize, None);
         self.rest.go_on(process, goes_from(process, to));
     }
@@ -405,7 +383,7 @@ impl Flat {
         ensures { self.new ≡ with_move process (record no_effect { disposition = Disposition.Waiting place }) self.old.turns to self.old }
     {
         let point = stands_by(Disposition::Waiting(place), to);
-        set_point(&mut self.points, process as usize, point);
+        self.points.set(process as usize, point);
         set_held(&mut self.held, process as usize, None);
         self.rest.leave(process);
     }
@@ -419,7 +397,7 @@ impl Flat {
         ensures err { OnErr result (self.new ≡ self.old) }
     {
         self.rest.sleep(process, delay, goes_from(process, to))?;
-        set_point(&mut self.points, process as usize, to);
+        self.points.set(process as usize, to);
         set_held(&mut self.held, process as usize, None);
         Ok(())
     }
@@ -428,7 +406,8 @@ impl Flat {
     #[tactic(auto, using(crate::proofs::RowLemmas::moved_to_post))]
     fn post_before(&mut self, process: u32, part: Part, to: Point) -> Result<(), NoMemory>
         requires { process < 256 }
-        ensures ok { OnOk result (self.new ≡ with_move process (form_effect 0 (Form.Post part)) self.old.turns to self.old) }
+        ensures ok { OnOk result (self.new
+            ≡ with_move process (record no_effect { posted = Some (post_after 0 (part ∷ [])) }) self.old.turns to self.old) }
         ensures err { OnErr result (self.new ≡ self.old) }
     {
         self.rest.post(Parts::one(part))?;
@@ -436,7 +415,8 @@ impl Flat {
         Ok(())
     }
 
-    // A process is placed that took a step of this form at a place, and comes to a point. After want of memory all is as it was.
+    // A process is placed that took a step of this form at a place, and comes to a point. After want of memory all is as it was; no form
+    // that tells turns can run out of it.
     fn place_by_form(
         &mut self,
         process: u32,
@@ -490,7 +470,7 @@ impl Flat {
     {
         let place = frame.place();
         set_left(code, &mut self.turns, place, form.left());
-        let to = comes_to(code, &self.turns, place, next, form.then(place));
+        let to = comes_to(code, self.turns.as_slice(), place, next, form.then(place));
         self.place_by_form(process, place, form, to)?;
         *effect = form.effect(place);
         self.finish_by_form(code, form, monitors);
@@ -507,12 +487,16 @@ impl Flat {
     ) -> Option<(Frame, &'d Action)>
         ensures { IsNext design.now.actions (spec.frame_at code.now self.now.turns (spec.point_in self.now.points process)) result }
     {
-        let frame = frame_at(code, &self.turns, point_in(&self.points, process as usize))?;
+        let frame = frame_at(
+            code,
+            self.turns.as_slice(),
+            self.points.at(process as usize),
+        )?;
         let action = design.actions.get(frame.place())?;
         Some((frame, action))
     }
 
-    // The operand of the action that a frame executes, where its code is known and its guards hold.
+    // What `operand_at` tells, in this flat state.
     fn operand(&self, design: &Design, code: &Code, frame: Frame, action: &Action) -> Option<Vec4>
         requires code { code.now ≡ code_of design.now }
         requires there { slice_get design.now.actions (place_of frame) ≡ Some action.now }
@@ -556,7 +540,7 @@ impl Flat {
         ensures err { OnErr result (self.new ≡ self.old) }
         ensures err_monitors { OnErr result (monitors.new.items ≡ monitors.old.items) }
     {
-        let alloc = *self.points.allocator();
+        let alloc = *self.held.allocator();
         let held = held_by(&self.held, process as usize);
         let environment = self.rest.environment(design);
         let course = effect_at(alloc, frame, action, held, operand, &environment, effect)?;
@@ -588,6 +572,7 @@ impl Flat {
             return Ok(());
         };
         let operand = self.operand(design, code, frame, action);
+        // A copy, as both ways take it by value.
         let known = operand;
         match self.row(design, frame, action, known) {
             Some(row) => self.run_row(code, process, frame, row.form, row.next, effect, monitors),
@@ -733,7 +718,7 @@ impl Flat {
         ensures err { OnErr result (self.new ≡ self.old) }
         ensures err_monitors { OnErr result (monitors.new.items ≡ monitors.old.items) }
     {
-        let alloc = *self.points.allocator();
+        let alloc = *self.held.allocator();
         let mut after = self.copy(alloc)?;
         let mut ran = Vec::new(alloc);
         after.take_holding(design, code, i, choice, effect, &mut ran)?;
@@ -796,13 +781,6 @@ impl Flat {
         }
     }
 
-    /// Lists of updates give back their room, where it is for more than four that aren't there; what the state holds is as it was.
-    pub fn shrink_to_fit(&mut self)
-        ensures { self.new ≡ self.old }
-    {
-        self.rest.shrink_to_fit();
-    }
-
     /// The same, where nobody asks what the step did.
     pub fn go(&mut self, design: &Design, code: &Code, i: u32) -> Result<(), NoMemory>
         requires code { code.now ≡ code_of design.now }
@@ -810,7 +788,14 @@ impl Flat {
         ensures err { OnErr result (self.new ≡ self.old) }
     {
         let mut effect = Effect::none();
-        let mut monitors = Vec::new(*self.points.allocator());
+        let mut monitors = Vec::new(*self.held.allocator());
         self.step_into(design, code, i, &mut effect, &mut monitors)
+    }
+
+    /// Lists of updates give back their room, where it is for more than four that aren't there; what the state holds is as it was.
+    pub fn shrink_to_fit(&mut self)
+        ensures { self.new ≡ self.old }
+    {
+        self.rest.shrink_to_fit();
     }
 }

@@ -1,8 +1,7 @@
-// Rows: what the steps of the most frequent actions do, told before they are taken (IEEE 1364-2005, 6.1, 9.2, 9.4, 9.6, 9.7).
+// Rows: what the steps of the most frequent actions do, told before they are taken (IEEE 1364-2005, 6.1, 9.2, 9.4, 9.6, 9.7). A row is
+// what the table of steps has for an action (docs/SCHEDULING.md, "Steps").
 
-ghost use Rattle.std.specs.Prelude.{◌≡◌, ℕ, Some, ◌∷◌, []};
-ghost use Rattle.vvalue.specs.Value.{Environment as EnvironmentOf};
-ghost use Rattle.vmodel.specs.declared.process.Frame.TheVariants as FrameOf;
+ghost use Rattle.std.specs.Prelude.{◌≡◌, Some, ◌∷◌, []};
 ghost use Rattle.std.specs.Option.{ForSome};
 ghost use Rattle.vmodel.specs.Operands.{operand as operand_at};
 ghost use Rattle.vmodel.specs.Value.{resumed_parts};
@@ -18,7 +17,7 @@ use vvalue::asked::{delay_by, is_true};
 use vvalue::cases::turns_by;
 use vvalue::environment::Environment;
 
-/// What the step of a frequent action does, before the places that come next.
+/// What the step of a frequent action does, but for the places that come next.
 #[derive(Clone, Copy)]
 pub(crate) enum Form {
     /// It writes one part (9.2.1).
@@ -33,7 +32,7 @@ pub(crate) enum Form {
     Loop,
     /// So many turns are left behind it (9.6).
     Turn(u64),
-    /// It waits at its place (9.7.2).
+    /// It waits at its place: `@(..)` (9.7.2), not `wait`.
     Wait,
     /// It sleeps so long, in units of the precision (9.7.1).
     Sleep(u128),
@@ -46,7 +45,7 @@ pub(crate) struct Row<'d> {
     pub(crate) next: &'d [usize],
 }
 
-// A step of this form, behind which no place comes next.
+// A step of this form, behind which no other place comes next.
 fn alone<'d>(form: Form) -> Row<'d>
     ensures form { result.form ≡ form }
     ensures next { result.next.now ≡ [] }
@@ -135,7 +134,7 @@ fn row_of_assignment<'d>(
     environment: &Environment<'_>,
 ) -> Option<Row<'d>>
     requires { operand ≡ operand_at environment.now action.now }
-    ensures { ForSome result (λ row. (place : ℕ) → spec.IsRow (FrameOf.Executing place) action.now environment.now row.form row.next.now) }
+    ensures { ForSome result (spec.IsRowAt action.now environment.now) }
 {
     match action {
         Action::Assign { targets, .. } => {
@@ -161,7 +160,7 @@ fn row_by_operand<'d>(
     environment: &Environment<'_>,
 ) -> Option<Row<'d>>
     requires { operand ≡ operand_at environment.now action.now }
-    ensures { ForSome result (λ row. (place : ℕ) → spec.IsRow (FrameOf.Executing place) action.now environment.now row.form row.next.now) }
+    ensures { ForSome result (spec.IsRowAt action.now environment.now) }
 {
     match action {
         Action::Test {
@@ -191,7 +190,7 @@ fn row_at<'d>(
     environment: &Environment<'_>,
 ) -> Option<Row<'d>>
     requires { ForSome operand (λ value. value ≡ operand_at environment.now action.now) }
-    ensures { ForSome result (λ row. (place : ℕ) → spec.IsRow (FrameOf.Executing place) action.now environment.now row.form row.next.now) }
+    ensures { ForSome result (spec.IsRowAt action.now environment.now) }
 {
     match action {
         Action::Forever { body } => Some(before(Form::Loop, body)),
@@ -202,7 +201,7 @@ fn row_at<'d>(
 
 // The row of a turn of the action at a place, of which so many are left.
 fn row_of_turn<'d>(action: &'d Action, turns: u64) -> Option<Row<'d>>
-    ensures { ForSome result (λ row. (place : ℕ) (now : EnvironmentOf) → spec.IsRow (FrameOf.Repeating place turns) action.now now row.form row.next.now) }
+    ensures { ForSome result (spec.IsRowOfTurn action.now turns) }
 {
     match action {
         Action::Repeat { body, .. } => Some(before(Form::Turn(turns.saturating_sub(1)), body)),

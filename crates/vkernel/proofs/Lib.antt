@@ -2,3 +2,4 @@ mod OrderLemmas
 mod OpeningLemmas
 mod ShownLemmas
 mod ValueLemmas
+pub mod SumLemmas

@@ -1,3 +1,4 @@
 -- *internal*: The list of these files; the first word of each says whether it has to be believed.
 pub mod Inner
 pub mod KernelFed
+pub mod Sums

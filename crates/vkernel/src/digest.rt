@@ -1,25 +1,14 @@
 // What the hash of a kernel is fed (specs/KernelFed.antt).
 
 ghost use Rattle.std.specs.Prelude.{◌≡◌};
-ghost use Rattle.vmodel.specs.Digest.{digest_of_values, digest_of_held, digest_of_list, digest_of_lines, digest_of_printed};
+ghost use Rattle.vmodel.specs.Digest.{digest_of_held, digest_of_list, digest_of_lines, digest_of_printed};
 ghost use Rattle.vkernel.specs.KernelFed.{views_digest};
 
 use crate::kernel::Kernel;
 use sched_core::bag::{Bag, PrintedLine};
 use std::hash::{Hash, Hasher};
-use vbits::Vec4;
 use vmodel::process_set::ProcessSet;
-use vstrata::digest::{mix, mix_end, mix_set, mix_vector};
-
-fn mix_values(first: u64, values: &[Vec4]) -> u64
-    ensures { result ≡ digest_of_values first values.now }
-{
-    let mut digest = first;
-    for value in values {
-        digest = mix_vector(digest, *value);
-    }
-    digest
-}
+use vstrata::digest::{mix, mix_end, mix_set};
 
 fn mix_held(digest: u64, held_back: &Option<ProcessSet>) -> u64
     ensures { result ≡ digest_of_held digest held_back.now }
@@ -64,13 +53,13 @@ impl Kernel {
     fn views_digest(&self) -> u64
         ensures { result ≡ views_digest self.now }
     {
-        let held = mix_held(mix_values(0, &self.values), &self.held_back);
+        let held = mix_held(self.values.sum(), &self.held_back);
         mix_printed(held, &self.printed)
     }
 }
 
-/// A hash is fed what the queue is, as vstrata has it, and one number made of the values, and of what is held back and printed where that is
-/// kept.
+/// A hash is fed what the queue is, as vstrata has it, and one number made of the sum of the shares of the values, and of what is held
+/// back and printed where that is kept.
 impl Hash for Kernel {
     ghost use Rattle.vkernel.specs.KernelFed.{kernel_fed, kernels_fed_alike};
 

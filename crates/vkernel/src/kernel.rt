@@ -9,6 +9,7 @@ ghost use Rattle.vmodel.specs.Touched.{is_slot_end};
 
 use crate::choices;
 use crate::printed::copy_printed;
+use crate::values::Store;
 use basis::NoMemory;
 use sched_core::bag::Bag;
 use sched_core::end::{Cause, End};
@@ -26,7 +27,7 @@ use vvalue::environment::Environment;
 /// for these, what is held back and the lines of the slot. A clause sees it as the record `State` of vmodel, without processes.
 #[derive(Drop)]
 pub struct Kernel {
-    pub(crate) values: Vec<Vec4>,
+    pub(crate) values: Store,
     pub(crate) queue: RingStrata,
     pub(crate) cause: Option<Cause>,
     pub(crate) held_back: Option<ProcessSet>,
@@ -40,7 +41,7 @@ impl Model for Kernel {
     ghost Value = { state.State };
 
     ghost view = { λ k. record {
-      values = k.values.items;
+      values = k.values;
       processes = [];
       queue = k.queue;
       cause = k.cause;
@@ -90,7 +91,7 @@ impl Kernel {
         ensures { IfOk result (λ kernel. kernel ≡ self.now) }
     {
         Ok(Kernel {
-            values: Vec::from_slice(alloc, &self.values)?,
+            values: self.values.copy(alloc)?,
             queue: self.queue.copy()?,
             cause: self.cause,
             held_back: copy_held(&self.held_back),
@@ -174,7 +175,7 @@ impl Kernel {
     pub fn values(&self) -> &[Vec4]
         ensures { result.now ≡ self.now.values }
     {
-        &self.values
+        self.values.as_slice()
     }
 
     /// Why the run ended, where `$finish` or `$stop` was taken (17.4).
@@ -208,7 +209,7 @@ impl Kernel {
     pub fn environment<'m>(&'m self, design: &'m Design) -> Environment<'m>
         ensures { result ≡ environment_of design.now self.now }
     {
-        environment_at(design, &self.values, self.queue.time())
+        environment_at(design, self.values.as_slice(), self.queue.time())
     }
 }
 

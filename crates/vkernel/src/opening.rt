@@ -6,6 +6,7 @@ ghost use Rattle.vmodel.specs.State.{without_processes};
 ghost use Rattle.vkernel.specs.Inner.{setting_of};
 
 use crate::kernel::Kernel;
+use crate::values::Store;
 use basis::NoMemory;
 use sched_core::bag::Bag;
 use sched_core::setting::{Departures, Grain, Looked};
@@ -71,7 +72,7 @@ impl Kernel {
         let values = Values::opening(alloc, &design.variables)?;
         let active = busy(&design.processes);
         Ok(Kernel {
-            values: Vec::from_slice(alloc, values.as_slice())?,
+            values: Store::from_slice(alloc, values.as_slice())?,
             queue: RingStrata::new(alloc, grain, until, active),
             cause: None,
             held_back: held_first(departures),

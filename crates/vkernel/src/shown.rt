@@ -44,7 +44,7 @@ impl Kernel {
         }
         Ok(Some(Item::SlotEnd {
             time: self.queue.time(),
-            values: Values::from_slice(alloc, &self.values)?,
+            values: Values::from_slice(alloc, self.values.as_slice())?,
         }))
     }
 }

@@ -18,7 +18,6 @@ use crate::kernel::Kernel;
 use crate::moves;
 use crate::printed::{print_items, print_nothing};
 use crate::shown::put_items;
-use crate::values::{write, write_all};
 use basis::NoMemory;
 use sched_core::end::Cause;
 use vdesign::design::Design;
@@ -56,8 +55,8 @@ impl Kernel {
         self.queue.go_on(process, goes);
     }
 
-    /// The process sleeps so long, in units of the precision; where nothing is left of it, it has ended, and only the time becomes a future
-    /// one. The error is want of memory, E901, and leaves all as it was.
+    /// The process sleeps so long, in units of the precision. Where nothing is left of it, it has ended, and only the time, where it is later
+    /// and within the limit, becomes a future one. The error is want of memory, E901, and leaves all as it was.
     pub fn sleep(&mut self, process: u32, delay: u128, goes: Option<u32>) -> Result<(), NoMemory>
         requires { ForSome goes (λ p. p < 256) }
         ensures ok { OnOk result (self.new ≡ record self.old {
@@ -90,14 +89,14 @@ impl Kernel {
         ensures change { IsChange result self.old.values self.new.values }
         ensures variable { IfSome result (λ c. c.variable ≡ variable_of part) }
     {
-        write(&mut self.values, part)
+        self.values.write(part)
     }
 
     /// Parts are written, from left to right.
     pub fn write_parts(&mut self, parts: &[Part])
         ensures { self.new ≡ record self.old { values = with_parts parts.now self.old.values } }
     {
-        write_all(&mut self.values, parts);
+        self.values.write_all(parts);
     }
 
     /// One more process is active.
@@ -201,7 +200,7 @@ impl Kernel {
             ≡ with_lines_after design.now self.old choice (transition_to self.old effect.now monitors.now)) }
         ensures err { OnErr result (self.new ≡ record self.old { printed = self.new.printed }) }
     {
-        let mut items = Vec::new(*self.values.allocator());
+        let mut items = Vec::new(self.values.allocator());
         put_items(&mut items, design, self, effect, monitors)?;
         print_items(&mut self.printed, choice, &items)
     }

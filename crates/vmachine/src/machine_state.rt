@@ -78,7 +78,7 @@ impl Hash for MachineState {
 }
 
 impl MachineState {
-    /// A state that is kept as it is. The error is want of memory, E901, as below.
+    /// A state that is kept as it is. The error is want of memory, E901; so it is of `flat`.
     pub(crate) fn plain(alloc: Global, state: State) -> Result<MachineState, NoMemory>
         ensures { IfOk result (λ s. s ≡ plain state) }
     {
@@ -119,7 +119,8 @@ impl MachineState {
         }
     }
 
-    /// Lists of updates give back room that they don't need, so that a state that an explorer keeps is small; it holds what it held.
+    /// Lists of updates of a flat state give back room that they don't need, so that an explorer's states are small; what the state holds
+    /// is as it was.
     pub(crate) fn shrink_to_fit(&mut self)
         ensures { self.new ≡ self.old }
     {
@@ -129,7 +130,7 @@ impl MachineState {
         }
     }
 
-    /// The same, with what the step did and the monitor events that ran, as `State::step_into` has it.
+    /// The step of choice `i`, as `go` takes it, with what it did and the monitor events that ran, as `State::step_into` has it.
     pub(crate) fn step_into(
         &mut self,
         design: &Design,

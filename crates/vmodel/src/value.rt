@@ -135,7 +135,11 @@ fn shared_parts(
 }
 
 /// The value of the right side of an assignment, at the bits of its targets; a suspended one holds it (5.5.3, 9.7.7).
-pub fn held_value(targets: &Targets, expression: &Expression, environment: &Environment<'_>) -> Vec4
+pub(crate) fn held_value(
+    targets: &Targets,
+    expression: &Expression,
+    environment: &Environment<'_>,
+) -> Vec4
     ensures { result ≡ spec.held_value environment.now targets.now expression.now }
 {
     let size = targets_size(targets.as_slice(), environment)
@@ -164,7 +168,7 @@ fn given_all(
 }
 
 /// What targets get of a value of any size, which is cut or extended to the bits of all of them (5.1.14, 6.2). E901 is the only refusal.
-pub fn given_parts(
+pub(crate) fn given_parts(
     alloc: Global,
     targets: &Targets,
     value: Vec4,
@@ -184,7 +188,7 @@ pub fn given_parts(
 }
 
 /// The parts that a suspended assignment writes of the value that it holds, if it holds one, to its targets as they are now (9.7.7).
-pub fn resumed_parts(
+pub(crate) fn resumed_parts(
     alloc: Global,
     targets: &Targets,
     held: Option<Vec4>,

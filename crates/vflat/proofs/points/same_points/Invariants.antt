@@ -1,7 +1,7 @@
 use Rattle.std.proofs.Common.{◌≡◌, ◌≤◌, ◌-◌, drop, length}
 use Rattle.std.specs.Cmp.Lexicographic.{pointwise}
 use Rattle.vcode.specs.Points.{is_same_point}
-use Rattle.vflat.proofs.flat.same_points.Given as goal
+use Rattle.vflat.proofs.points.same_points.Given as goal
 
 abbrev pub invariant-loop-n : goal.invariant-loop-n
 invariant-loop-n l =

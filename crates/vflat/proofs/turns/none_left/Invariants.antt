@@ -1,6 +1,6 @@
 use Rattle.std.proofs.Common.{◌≡◌, ◌++◌, drop, replicate}
 use Rattle.vflat.specs.Flat.{counter_count}
-use Rattle.vflat.proofs.flat.no_turns.Given as goal
+use Rattle.vflat.proofs.turns.none_left.Given as goal
 
 abbrev pub invariant-loop-counter : goal.invariant-loop-counter
 invariant-loop-counter l =

@@ -1,6 +1,0 @@
-use Rattle.std.proofs.Common.{◌≡◌, drop}
-use Rattle.vmodel.specs.Parts.{with_parts}
-use Rattle.vkernel.proofs.values.write_all.Given as goal
-
-abbrev pub invariant-loop-part : goal.invariant-loop-part
-invariant-loop-part l = with_parts (drop l.part-index l.parts) l.values ≡ with_parts l.parts l.fn.values
