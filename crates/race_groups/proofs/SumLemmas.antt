@@ -2,12 +2,15 @@
 use Rattle.std.specs.Prelude.{Decides, option_map}
 use Rattle.std.specs.Bool.{MatchBool}
 use Rattle.std.proofs.lemmas.Bool.Decides.{Decides-like}
-use Rattle.std.proofs.Common.{◌≡◌, ◌&&◌, Bool, true, false, Option, ℕ, ◌<◌, ◌≤◌, List, [], ◌∷◌, ◌++◌, length, drop, slice_get, Some, refl}
+use Rattle.std.proofs.Common.{◌≡◌, ◌&&◌, Bool, true, false, Option, ℕ, ◌<◌, ◌≤◌, List, [], ◌∷◌, ◌++◌, length, drop, get_or, slice_get, Some, refl}
 use Rattle.std.proofs.Common.{sym, ap, ◌∙◌, subst, inl, inr, append-nil, append_assoc, arith}
 use Rattle.std.specs.List.{Contains}
-use Rattle.std.proofs.lemmas.List.{map-append}
+use Rattle.std.specs.List.Sorted.{IsNonDecreasingBy, IsPermutation}
+use Rattle.std.proofs.lemmas.List.{map-append, nil_from_length}
+use Rattle.std.proofs.lemmas.List.Sorted.{Contains-permutation, IsPermutation-sym, length_permutation}
 use Rattle.std.proofs.lemmas.List.Elements.{Contains-append_cases, Contains-append_left, Contains-append_right, Contains-push_cases}
 use Rattle.basis.proofs.Lists.{at_contains, place_within}
+use Rattle.racebook.proofs.ListLemmas.{contains_at}
 use Rattle.explore.specs.Ranked.{pairs_of}
 use Rattle.explore.specs.declared.rank_marks.FoundMark.{FoundMark}
 use Rattle.vmodel.specs.State.{State}
@@ -17,8 +20,8 @@ use Rattle.vmachine.specs.Machines.{Stands}
 use Rattle.vmachine.specs.Reads.{end_in}
 use Rattle.vbits.specs.Vectors.{Vector}
 use Rattle.sched_core.specs.declared.end.End.{End}
-use Rattle.std.proofs.lemmas.Option.{same_Some}
-use Rattle.race_groups.specs.Inner.{AreAlike, AreUncut, AreUnlike, GrowsTo, IsUncut, Shape, SumsUp, shape_of}
+use Rattle.std.proofs.lemmas.Option.{get_or_from_slice_get, same_Some, slice_get_within}
+use Rattle.race_groups.specs.Inner.{AreAlike, AreUncut, AreUnlike, BeginsWithFewest, GrowsTo, IsUncut, KeepsFirst, Shape, SumsUp, shape_of}
 use Rattle.race_groups.proofs.ListLemmas.{from_map, front_of_one, none_in_front, nothing_in}
 
 abbrev Pair : Type 0
@@ -55,11 +58,57 @@ sums_on setting ends others old mid new a b = record {
   unlike = λ un. b.unlike (a.unlike un);
 }
 
+-- the same of these in another order
+pub sums_moved : (setting : Setting) (ends others old new : List Pair) → IsPermutation ends others → SumsUp setting others old new →
+    SumsUp setting ends old new
+sums_moved setting ends others old new moved sums = record {
+  more = sums.more;
+  is = sums.is;
+  among = λ end has. Contains-permutation others ends end (IsPermutation-sym ends others moved) (sums.among end has);
+  none = λ e. nil_from_length ends (let long = length_permutation ends others moved in let none = ap length (sums.none e) in cc);
+  alike = λ one e end has. sums.alike one e end (Contains-permutation ends others end moved has);
+  unlike = sums.unlike;
+}
+
 pub grows_on : {A : Type 0} (old mid new : List A) → GrowsTo old mid → GrowsTo mid new → GrowsTo old new
 grows_on old mid new a b = (a.0 ++ b.0, b.1 ∙ ap (λ l. l ++ b.0) a.1 ∙ append_assoc old a.0 b.0)
 
 pub grows_none : {A : Type 0} (old : List A) → GrowsTo old old
 grows_none old = ([], sym (append-nil old))
+
+-- ---- the first of them
+
+alone : (one end : Pair) → Contains (one ∷ []) end → one ≡ end
+alone one end has = elim (Contains-push_cases [] one end has) [
+  | inl none ↦ nothing_in end none
+  | inr is ↦ is
+]
+
+-- of none, none is kept
+nothing_among : (more : List Pair) → ((end : Pair) → Contains more end → Contains [] end) → more ≡ []
+nothing_among [] among = refl
+nothing_among (x ∷ xs) among = nothing_in x (among x (contains_at (x ∷ xs) 0 x refl))
+
+-- of one, it is kept
+one_is_kept : (more : List Pair) (one : Pair) → (more ≡ [] → one ∷ [] ≡ []) → ((end : Pair) → Contains more end → Contains (one ∷ []) end) →
+    slice_get more 0 ≡ Some one
+one_is_kept [] one none among = absurd (let e = none refl in cc)
+one_is_kept (x ∷ xs) one none among = ap Some (sym (alone one x (among x (contains_at (x ∷ xs) 0 x refl))))
+
+first_stays : {A : Type 0} (xs more : List A) (x : A) → slice_get xs 0 ≡ Some x → slice_get (xs ++ more) 0 ≡ Some x
+first_stays [] more x at = absurd cc
+first_stays (y ∷ xs) more x at = at
+
+-- one more was looked at
+first_on : (setting : Setting) (ends : List Pair) (end : Pair) (old mid new : List Pair) → SumsUp setting ends old mid → KeepsFirst ends old mid →
+    SumsUp setting (end ∷ []) mid new → KeepsFirst (ends ++ end ∷ []) old new
+first_on setting [] end old mid new before first one none k at =
+    let bare : mid ≡ [] = before.is ∙ ap (λ l. l ++ before.more) none ∙ nothing_among before.more before.among in
+    let is : new ≡ one.more = one.is ∙ ap (λ l. l ++ one.more) bare in
+    let kept : slice_get one.more 0 ≡ Some end = one_is_kept one.more end (λ e. one.none (is ∙ e)) one.among in
+    ap (λ l. slice_get l 0) is ∙ kept ∙ at
+first_on setting (x ∷ xs) end old mid new before first one none k at =
+    ap (λ l. slice_get l 0) one.is ∙ first_stays mid one.more k (first none k at)
 
 -- ---- one state after another
 
@@ -68,6 +117,7 @@ pub record SumsSoFar (setting : Setting) (all left old kept : List (FoundMark Ma
   pub looked_at : List (FoundMark MachineState)
   pub whole : looked_at ++ left ≡ all
   pub sums : SumsUp setting (pairs_of looked_at) (pairs_of old) (pairs_of kept)
+  pub first : KeepsFirst (pairs_of looked_at) (pairs_of old) (pairs_of kept)
   pub grows : GrowsTo old kept
 
 pub sums_start : (setting : Setting) (all left kept : List (FoundMark MachineState)) → left ≡ all → SumsSoFar setting all left kept kept
@@ -75,6 +125,7 @@ sums_start setting all left kept is = record {
   looked_at = [];
   whole = is;
   sums = sums_none setting (pairs_of kept);
+  first = λ none end at. absurd cc;
   grows = grows_none kept;
 }
 
@@ -87,6 +138,9 @@ sums_next setting all left rest old mid new found so_far first one grows = recor
   sums = subst (λ (l : List Pair). SumsUp setting l (pairs_of old) (pairs_of new))
       (sym (map-append (λ (f : FoundMark MachineState). (f.state, f.log)) so_far.looked_at (found ∷ [])))
       (sums_on setting (pairs_of so_far.looked_at) (pairs_of (found ∷ [])) (pairs_of old) (pairs_of mid) (pairs_of new) so_far.sums one);
+  first = subst (λ (l : List Pair). KeepsFirst l (pairs_of old) (pairs_of new))
+      (sym (map-append (λ (f : FoundMark MachineState). (f.state, f.log)) so_far.looked_at (found ∷ [])))
+      (first_on setting (pairs_of so_far.looked_at) (found.state, found.log) (pairs_of old) (pairs_of mid) (pairs_of new) so_far.sums so_far.first one);
   grows = grows_on old mid new so_far.grows grows;
 }
 
@@ -96,16 +150,16 @@ sums_done setting all left old kept so_far none =
     let e : so_far.looked_at ≡ all = sym (append-nil so_far.looked_at) ∙ ap (λ l. so_far.looked_at ++ l) (sym none) ∙ so_far.whole in
     subst (λ (l : List (FoundMark MachineState)). SumsUp setting (pairs_of l) (pairs_of old) (pairs_of kept)) e so_far.sums
 
+pub first_done : (setting : Setting) (all left old kept : List (FoundMark MachineState)) → SumsSoFar setting all left old kept → left ≡ [] →
+    KeepsFirst (pairs_of all) (pairs_of old) (pairs_of kept)
+first_done setting all left old kept so_far none =
+    let e : so_far.looked_at ≡ all = sym (append-nil so_far.looked_at) ∙ ap (λ l. so_far.looked_at ++ l) (sym none) ∙ so_far.whole in
+    subst (λ (l : List (FoundMark MachineState)). KeepsFirst (pairs_of l) (pairs_of old) (pairs_of kept)) e so_far.first
+
 -- ---- one state
 
 turned : (setting : Setting) (s r : MachineState) → AreAlike setting s r → AreAlike setting r s
 turned setting s r like = λ t u st su. sym (like u t su st)
-
-alone : (one end : Pair) → Contains (one ∷ []) end → one ≡ end
-alone one end has = elim (Contains-push_cases [] one end has) [
-  | inl none ↦ nothing_in end none
-  | inr is ↦ is
-]
 
 -- a machine's state stands for one state alone
 abbrev pub ForOne : Setting → Type 0
@@ -237,3 +291,24 @@ module _ (setting : Setting) (s r : MachineState) (end end' : Option End) (value
 
 pub grows_same : {A : Type 0} (old new : List A) → new ≡ old → GrowsTo old new
 grows_same old new is = ([], is ∙ sym (append-nil old))
+
+-- ---- the fewest departures
+
+-- where they stand in the order of their departures, the first that is kept has no more than any of them
+pub fewest_first : (ends sorted : List (FoundMark MachineState)) (old new : List Pair) → IsPermutation ends sorted →
+    IsNonDecreasingBy (λ (f : FoundMark MachineState). length f.log) sorted → KeepsFirst (pairs_of sorted) old new →
+    BeginsWithFewest (pairs_of ends) old new
+fewest_first ends [] old new moved rise first none one end at has =
+    let long = length_permutation ends [] moved in
+    let bare = nil_from_length ends (omega (arith, long)) in
+    nothing_in end (subst (λ (l : List (FoundMark MachineState)). Contains (pairs_of l) end) bare has)
+fewest_first ends (x ∷ xs) old new moved rise first none one end at has =
+    let is : (x.state, x.log) ≡ one = same_Some (x.state, x.log) one (sym (first none (x.state, x.log) refl) ∙ at) in
+    let m = from_map (λ (f : FoundMark MachineState). (f.state, f.log)) ends end has in
+    let there = Contains-permutation ends (x ∷ xs) m.0 moved m.1 in
+    let p = at_contains (x ∷ xs) m.0 there in
+    let up = rise 0 p.0 x (omega arith) (slice_get_within (x ∷ xs) p.0 m.0 p.1) in
+    let e : get_or (x ∷ xs) p.0 x ≡ m.0 = get_or_from_slice_get (x ∷ xs) p.0 m.0 x p.1 in
+    subst (λ (k : Pair). length k.1 ≤ length end.1) is
+    (subst (λ (k : Pair). length x.log ≤ length k.1) m.2
+    (subst (λ (f : FoundMark MachineState). length x.log ≤ length f.log) e up))

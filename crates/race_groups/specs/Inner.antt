@@ -218,6 +218,15 @@ pub record SumsUp (setting : Setting) (ends old new : List (MachineState × List
   pub alike : (one : MachineState × List (ℕ × ℕ)) → new ≡ one ∷ [] → AllAlike setting ends one
   pub unlike : FirstTwoUnlike setting old → FirstTwoUnlike setting new
 
+-- where none was kept, the first of these is the first that is
+abbrev pub KeepsFirst : List (MachineState × List (ℕ × ℕ)) → List (MachineState × List (ℕ × ℕ)) → List (MachineState × List (ℕ × ℕ)) → Type 0
+KeepsFirst ends old new = old ≡ [] → (end : MachineState × List (ℕ × ℕ)) → slice_get ends 0 ≡ Some end → slice_get new 0 ≡ Some end
+
+-- where none was kept, the first that is has no more departures than any of these
+abbrev pub BeginsWithFewest : List (MachineState × List (ℕ × ℕ)) → List (MachineState × List (ℕ × ℕ)) → List (MachineState × List (ℕ × ℕ)) → Type 0
+BeginsWithFewest ends old new = old ≡ [] → (one end : MachineState × List (ℕ × ℕ)) → slice_get new 0 ≡ Some one → Contains ends end →
+    length one.1 ≤ length end.1
+
 -- ---- slots
 
 -- the differences that a slot gave

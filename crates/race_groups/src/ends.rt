@@ -5,7 +5,7 @@ ghost use Rattle.vmodel.specs.State.{State};
 ghost use Rattle.vmachine.specs.Machines.{Stands};
 ghost use Rattle.std.specs.Bool.{MatchBool};
 ghost use Rattle.explore.specs.Ranked.{pairs_of};
-ghost use Rattle.race_groups.specs.Inner.{AreAlike, AreUncut, AreUnlike, GrowsTo, IsUncut, SumsUp};
+ghost use Rattle.race_groups.specs.Inner.{AreAlike, AreUncut, AreUnlike, BeginsWithFewest, GrowsTo, IsUncut, KeepsFirst, SumsUp};
 
 use basis::NoMemory;
 use explore::FoundMark;
@@ -125,17 +125,40 @@ fn put_end(
     Ok(())
 }
 
-/// Keeps of these states what tells whether all are alike: the first, and the first that isn't like it.
-pub(crate) fn put_ends(
+// How many departures the log of a state names.
+fn departure_count(found: &FoundMark<MachineState>) -> usize
+    ensures { result ≡ length found.now.log }
+{
+    found.log.members().len()
+}
+
+// Keeps of these states what tells whether all are alike: the first, and the first that isn't like it.
+fn put_in_turn(
     machine: &Machine,
     kept: &mut Vec<FoundMark<MachineState>>,
     ends: Vec<FoundMark<MachineState>>,
 ) -> Result<(), NoMemory>
     ensures sums { OnOk result (SumsUp machine.now (pairs_of ends.items) (pairs_of kept.old.items) (pairs_of kept.new.items)) }
+    ensures first { OnOk result (KeepsFirst (pairs_of ends.items) (pairs_of kept.old.items) (pairs_of kept.new.items)) }
     ensures grows { GrowsTo kept.old.items kept.new.items }
 {
     for found in ends {
         put_end(machine, kept, found)?;
     }
     Ok(())
+}
+
+/// Keeps of these states what tells whether all are alike: one of the fewest departures, and the next that isn't like it. So where the
+/// default run ends among them, the one that is kept beside it is of a run that ends otherwise.
+pub(crate) fn put_ends(
+    machine: &Machine,
+    kept: &mut Vec<FoundMark<MachineState>>,
+    mut ends: Vec<FoundMark<MachineState>>,
+) -> Result<(), NoMemory>
+    ensures sums { OnOk result (SumsUp machine.now (pairs_of ends.items) (pairs_of kept.old.items) (pairs_of kept.new.items)) }
+    ensures fewest { OnOk result (BeginsWithFewest (pairs_of ends.items) (pairs_of kept.old.items) (pairs_of kept.new.items)) }
+    ensures grows { GrowsTo kept.old.items kept.new.items }
+{
+    ends.sort_by_key(|found| departure_count(found))?;
+    put_in_turn(machine, kept, ends)
 }

@@ -1,29 +1,27 @@
-use Rattle.std.proofs.Common.{arith}
-use Rattle.std.proofs.lemmas.List.{nil_from_length}
-use Rattle.std.specs.Vec.Iter.{into_iter_items}
-use Rattle.race_groups.proofs.SumLemmas.{grows_on, sums_done, sums_next, sums_start}
+use Rattle.std.proofs.Common.{length, rules}
+use Rattle.std.proofs.lemmas.List.Sorted.{IsNonDecreasingBy-from_sort_by_key, IsPermutation-map}
+use Rattle.std.proofs.lemmas.Result.{on_ok_weaker}
+use Rattle.explore.specs.Ranked.{pairs_of}
+use Rattle.explore.specs.declared.rank_marks.FoundMark.{FoundMark}
+use Rattle.vmachine.specs.declared.machine_state.MachineState.{MachineState}
+use Rattle.race_groups.proofs.SumLemmas.{fewest_first, sums_moved}
 use Rattle.race_groups.proofs.ends.put_ends.Goals as goal
-
-pub loop-found-init : goal.loop-found-init
-loop-found-init c = sums_start c.args.machine.now c.args.ends.items (into_iter_items c.into_iter-found-iterator.result)
-    c.args.kept.now.items c.into_iter-found-iterator.ensures.into_iter_gives.0
-
-pub loop-found-preserved : goal.loop-found-preserved
-loop-found-preserved c =
-    sums_next c.args.machine.now c.args.ends.items (into_iter_items c.loop-found.found-iterator)
-    (into_iter_items c.next.new.self) c.args.kept.now.items c.loop-found.kept.items c.put_end.new.kept.items c.in-Some.found
-    c.loop-found.invariant c.in-Some.ensures.steps.0 c.in_ok-put_end.ensures.sums c.put_end.ensures.grows
-
-pub returns-in_err-put_end-clause-grows : goal.returns-in_err-put_end-clause-grows
-returns-in_err-put_end-clause-grows c = grows_on c.args.kept.now.items c.loop-found.kept.items c.put_end.new.kept.items
-    c.loop-found.invariant.grows c.put_end.ensures.grows
 
 pub returns-clause-sums : goal.returns-clause-sums
 returns-clause-sums c =
-    sums_done c.args.machine.now c.args.ends.items (into_iter_items c.loop-found.found-iterator) c.args.kept.now.items
-    c.loop-found.kept.items c.loop-found.invariant
-    (nil_from_length (into_iter_items c.loop-found.found-iterator)
-    (omega (arith, c.loop-found.found-iterator.rest.ok.0, c.in-None.ensures.steps.0)))
+    let sorted = c.sort_by_key.new.self.items in
+    on_ok_weaker c.put_in_turn.result
+    (sums_moved c.args.machine.now (pairs_of c.args.ends.items) (pairs_of sorted) (pairs_of c.args.kept.now.items)
+    (pairs_of c.put_in_turn.new.kept.items)
+    (IsPermutation-map (λ (f : FoundMark MachineState). (f.state, f.log)) c.args.ends.items sorted c.in_ok-sort_by_key.ensures.permutation))
+    c.put_in_turn.ensures.sums
 
-pub returns-clause-grows : goal.returns-clause-grows
-returns-clause-grows c = c.loop-found.invariant.grows
+pub returns-clause-fewest : goal.returns-clause-fewest
+returns-clause-fewest c =
+    let sorted = c.sort_by_key.new.self.items in
+    on_ok_weaker c.put_in_turn.result
+    (fewest_first c.args.ends.items sorted (pairs_of c.args.kept.now.items) (pairs_of c.put_in_turn.new.kept.items)
+    c.in_ok-sort_by_key.ensures.permutation
+    (IsNonDecreasingBy-from_sort_by_key (λ (f : FoundMark MachineState). length f.log) sorted
+    c.in_ok-sort_by_key.ensures.sorted (λ a r q k. search rules)))
+    c.put_in_turn.ensures.first
