@@ -1,7 +1,7 @@
 -- That words are counted as they are spelled.
 use Rattle.std.proofs.Common.{◌≡◌, ℕ, ◌+◌, Bool, true, false, List, [], ◌∷◌, ◌++◌, length, map, codes, refl, arith, length-append}
 use Rattle.std.specs.Prelude.{Option, Some, None, option_map, flat_map, if◌then◌else◌}
-use Rattle.vast.specs.Words.{Text}
+use Rattle.vwords.specs.Words.{Text}
 use Rattle.vast.specs.NumberedWords.{Word}
 use Rattle.vast.specs.NumberedExpressions as text
 use Rattle.vast.specs.NumberedExpressions.{ExpressionTree, ExpressionTrees}

@@ -1,13 +1,13 @@
 -- Where the actions of statements begin, one behind another.
 use Rattle.std.proofs.Common.{◌≡◌, ℕ, suc, ◌+◌, ◌-◌, List, [], ◌∷◌, ◌++◌, Vec, Global, Box, sym, ap, ◌∙◌, append_assoc, arith, Option}
 use Rattle.std.specs.List.{flat_map}
-use Rattle.vast.specs.Words.{Text}
+use Rattle.vwords.specs.Words.{Text}
 use Rattle.vast.specs.NumberedWords.{word_of, Word}
 use Rattle.vast.specs.NumberedStatements.{StatementTree, block, case_of}
 use Rattle.vast.specs.NumberedModules.{ModuleTree, SourceTree}
 use Rattle.vast.specs.NumberedTrees.{tree_of, statement_tree, statement_trees, branch_trees}
 use Rattle.vast.specs.declared.expression.Expression.{Expression}
-use Rattle.vast.specs.declared.statement.CaseKind.{CaseKind}
+use Rattle.vwords.specs.declared.cases.CaseKind.{CaseKind}
 use Rattle.vast.specs.declared.statement.Branch.{Branch}
 use Rattle.vast.specs.declared.statement.Statement.{Statement, Block, Case}
 use Rattle.vast.proofs.ToldTrees.{told_block, told_case}

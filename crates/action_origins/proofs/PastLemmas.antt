@@ -3,7 +3,7 @@ use Rattle.std.proofs.Common.{◌≡◌, ◌<◌, ◌≤◌, ℕ, suc, ◌+◌, 
 use Rattle.std.proofs.lemmas.Bool.Decides.{nat_tests}
 use Rattle.std.proofs.lemmas.List.{drop_all}
 use Rattle.basis.proofs.Lists.{left_from}
-use Rattle.vast.specs.Words.{Text}
+use Rattle.vwords.specs.Words.{Text}
 use Rattle.vast.specs.NumberedWords.{word_of}
 use Rattle.std.specs.Prelude.{Option, option_map}
 use Rattle.vast.specs.NumberedTrees.{tree_of, trees_of, target_tree, target_trees, term_tree, further_term, event_tree, argument_tree, task_tree, connections_tree, instance_tree, item_tree}

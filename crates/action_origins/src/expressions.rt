@@ -2,7 +2,7 @@
 
 ghost use Rattle.std.specs.Prelude.{◌≡◌, ◌-◌, List};
 ghost use Rattle.vast.specs.NumberedTrees.{tree_of, trees_of};
-ghost use Rattle.vast.specs.Words.{Text};
+ghost use Rattle.vwords.specs.Words.{Text};
 ghost use Rattle.action_origins.specs.Lengths.{each_part, expression_length, parts_length, word_where};
 
 use vast::expression::Expression;

@@ -2,7 +2,7 @@
 
 ghost use Rattle.std.specs.Prelude.{◌≡◌, ◌-◌, List, map, option_map};
 ghost use Rattle.vast.specs.NumberedTrees.{connection_tree, connections_tree, declaration_kind, declared_tree, direction_tree, head_parameter, instance_tree, net_assignment, parameter_type, port_tree, range_tree, setting_tree, tree_of, type_tree};
-ghost use Rattle.vast.specs.Words.{Text};
+ghost use Rattle.vwords.specs.Words.{Text};
 ghost use Rattle.action_origins.specs.Lengths.{connection_length, connections_length, declaration_kind_length, declared_length, direction_length, expression_length, head_parameter_length, head_parameters_length, instance_length, kind_length, length_if, length_of_each, list_length, net_assignment_length, overrides_length, parameter_type_length, port_length, ports_length, range_length, setting_length, type_length, value_length, word_if, word_where};
 
 use crate::expressions::{past_end, past_expression};

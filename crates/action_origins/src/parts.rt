@@ -3,7 +3,7 @@
 ghost use Rattle.std.specs.Prelude.{◌≡◌, ◌-◌, ◌+◌, List, map, option_map};
 ghost use Rattle.vast.specs.NumberedTrees.{argument_tree, delay_tree, event_tree, further_term, path_tree, selection_tree, target_tree, target_trees, task_tree, term_tree, tree_of};
 ghost use Rattle.vast.specs.NumberedWords.{word_of};
-ghost use Rattle.vast.specs.Words.{Text};
+ghost use Rattle.vwords.specs.Words.{Text};
 ghost use Rattle.action_origins.specs.Lengths.{argument_length, arguments_length, assignment_length, delay_length, each_target, event_length, for_length, further_length, head_length, length_if, length_of_each, pair_length, path_length, paths_length, selection_length, target_length, targets_length, task_length, term_length, turn_length, word_if};
 
 use crate::expressions::{past_end, past_expression};

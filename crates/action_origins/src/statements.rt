@@ -6,7 +6,7 @@ ghost use Rattle.vexpr_parse.specs.Texts.{words_of};
 ghost use Rattle.action_origins.specs.Lengths.{branch_length, branches_length, default_length, statement_length, statements_length, begin_length};
 ghost use Rattle.action_origins.specs.Origins as spec;
 ghost use Rattle.action_origins.specs.Origins.{branch_origins, branches_origins, statement_origins, statements_origins};
-ghost use Rattle.vast.specs.Words.{Text};
+ghost use Rattle.vwords.specs.Words.{Text};
 ghost use Rattle.vast.specs.NumberedWords.{word_of};
 
 use crate::expressions::past_parts;

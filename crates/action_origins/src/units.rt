@@ -5,7 +5,7 @@ ghost use Rattle.std.specs.List.{flat_map};
 ghost use Rattle.vast.specs.NumberedTrees.{connection_tree, connections_tree, declared_tree, instance_tree, item_tree, module_tree, net_assignment, port_tree, source_tree, tree_of};
 ghost use Rattle.vast.specs.NumberedModules.{by_name, by_order};
 ghost use Rattle.vast.specs.NumberedWords.{word_of};
-ghost use Rattle.vast.specs.Words.{Text};
+ghost use Rattle.vwords.specs.Words.{Text};
 ghost use Rattle.vexpr_parse.specs.Texts.{words_of};
 ghost use Rattle.vmodules.specs.Names.{first_again};
 ghost use Rattle.vmodules.specs.Inner.{named_text, optional_ports, unit_names, unit_tree, units_tree};

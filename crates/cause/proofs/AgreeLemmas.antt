@@ -8,8 +8,9 @@ use Rattle.vmodel.specs.State.{State}
 use Rattle.vmodel.specs.Choices.{choices}
 use Rattle.vmodel.specs.Run.{Setting, rules_of, state_after}
 use Rattle.cause.specs.Causes.{parent_of, step_named, last_step}
-use Rattle.cause.specs.Checkpoints.{Keeps, IsCheckpoint, IsCheckpointOf}
-use Rattle.cause.specs.Visits.{seen_after, choice_of, is_in_slot}
+use Rattle.cause.specs.Checkpoints.{IsCheckpoint, IsCheckpointOf}
+use Rattle.footprints.specs.Keeping.{Keeps}
+use Rattle.footprints.specs.Visits.{seen_after, choice_of, is_in_slot}
 use Rattle.cause.specs.declared.checkpoint.Checkpoint.{Checkpoint}
 use Rattle.cause.proofs.CheckpointLemmas.{seen_at}
 use Rattle.cause.proofs.ParentLemmas.{named, same_choice, some_length}

@@ -3,10 +3,10 @@ use Rattle.std.proofs.Common.{◌≡◌, ℕ, zero, suc, ◌+◌, ◌-◌, ◌<�
 use Rattle.std.proofs.lemmas.Option.{same_Some, slice_get_past}
 use Rattle.basis.proofs.Lists.{stands_in_front}
 use Rattle.vdesign.specs.declared.action.Action.{Action}
-use Rattle.cause.specs.declared.thing.Thing.{Thing}
-use Rattle.cause.specs.declared.visit.Visit.{Visit}
+use Rattle.footprints.specs.declared.thing.Thing.{Thing}
+use Rattle.footprints.specs.declared.visit.Visit.{Visit}
 use Rattle.cause.specs.declared.slot.Slot.{Slot}
-use Rattle.cause.specs.Footprints.{meet}
+use Rattle.footprints.specs.Footprints.{meet}
 use Rattle.cause.specs.Behind.{is_connection, writes_one, last_writer, source_by, source_of, onward, IsEnd, behind, place_or, statement_behind}
 use Rattle.cause.specs.Inner.{whole}
 

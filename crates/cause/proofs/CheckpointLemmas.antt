@@ -17,9 +17,10 @@ use Rattle.vmodel.specs.Run.{Setting, rules_of, opening_of, state_after}
 use Rattle.vmodel.specs.RunProgress.{opening_is}
 use Rattle.vmodel.proofs.TimesLemmas.{time_never_falls}
 use Rattle.cause.specs.declared.checkpoint.Checkpoint.{Checkpoint}
-use Rattle.cause.specs.declared.visit.Posted.{Posted}
-use Rattle.cause.specs.Checkpoints.{due_from, Keeps, IsCheckpoint, IsCheckpointOf, AreCheckpoints}
-use Rattle.cause.specs.Visits.{Seen, nothing_seen, is_due, due_at, place_by, acting_place, posted_by, with_visit, seen_by, seen_next, seen_after, choice_of, updates_after}
+use Rattle.footprints.specs.declared.visit.Posted.{Posted}
+use Rattle.cause.specs.Checkpoints.{IsCheckpoint, IsCheckpointOf, AreCheckpoints}
+use Rattle.footprints.specs.Keeping.{due_from, Keeps}
+use Rattle.footprints.specs.Visits.{Seen, nothing_seen, is_due, due_at, place_by, acting_place, posted_by, with_visit, seen_by, seen_next, seen_after, choice_of, updates_after}
 
 -- ---- what is kept
 

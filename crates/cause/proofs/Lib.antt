@@ -1,11 +1,7 @@
 pub mod AgreeLemmas
 pub mod BehindLemmas
 pub mod CheckpointLemmas
-pub mod FootprintLemmas
-pub mod LatestLemmas
-pub mod NumberLemmas
 pub mod ParentLemmas
 pub mod RestLemmas
 pub mod SlotLemmas
-pub mod SwapLemmas
 pub mod ToldLemmas

@@ -15,13 +15,14 @@ use Rattle.vmodel.specs.Run.{Setting, rules_of, state_after}
 use Rattle.vmodel.specs.RunProgress.{width_is, after_is}
 use Rattle.vmachine.specs.Inner.{IsAt}
 use Rattle.vmodel.specs.Effects.{Effect}
-use Rattle.cause.specs.Checkpoints.{Keeps, IsCheckpointOf}
+use Rattle.cause.specs.Checkpoints.{IsCheckpointOf}
+use Rattle.footprints.specs.Keeping.{Keeps}
 use Rattle.cause.proofs.CheckpointLemmas.{keeps_none, keeps_on, keeps_then, rises, seen_early}
-use Rattle.cause.specs.declared.visit.Visit.{Visit}
+use Rattle.footprints.specs.declared.visit.Visit.{Visit}
 use Rattle.cause.specs.declared.checkpoint.Checkpoint.{Checkpoint}
-use Rattle.cause.specs.Visits.{Seen, seen_by, seen_next, seen_after, visits_to, choice_of, is_in_slot, IsBegin, IsSlot}
+use Rattle.footprints.specs.Visits.{Seen, seen_by, seen_next, seen_after, visits_to, choice_of, is_in_slot, IsBegin, IsSlot}
 use Rattle.cause.specs.Causes.{AreEarlier, AreVisits, HasNoCause, HasNoSlot, last_step, parent_of}
-use Rattle.cause.specs.Swaps.{HasNoSwap}
+use Rattle.footprints.specs.Swaps.{HasNoSwap}
 use Rattle.cause.specs.Stands.{IsSeenSo, StandsBefore}
 
 -- what a clause says of what was found

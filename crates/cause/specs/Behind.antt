@@ -4,9 +4,9 @@
 use Rattle.std.specs.Prelude.{◌≡◌, ℕ, zero, suc, Bool, true, false, if◌then◌else◌, List, length, Option, Some, None, slice_get}
 use Rattle.vdesign.specs.declared.action.Action.{Action}
 use Rattle.vdesign.specs.declared.action.Action.TheVariants.{ContinuousAssign}
-use Rattle.cause.specs.declared.thing.Thing.{Thing}
-use Rattle.cause.specs.declared.visit.Visit.{Visit}
-use Rattle.cause.specs.Footprints.{meet}
+use Rattle.footprints.specs.declared.thing.Thing.{Thing}
+use Rattle.footprints.specs.declared.visit.Visit.{Visit}
+use Rattle.footprints.specs.Footprints.{meet}
 
 -- 6.1: a port connection, or an `assign`
 abbrev pub is_connection : Option Action → Bool

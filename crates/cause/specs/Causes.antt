@@ -4,11 +4,11 @@ use Rattle.std.specs.Prelude.{◌≡◌, ℕ, suc, ◌+◌, ◌-◌, ◌<◌, if
 use Rattle.vdesign.specs.declared.action.Action.{Action}
 use Rattle.sched_core.specs.Rules.{IsRun, NamesBelow}
 use Rattle.vmodel.specs.Run.{Setting, rules_of, state_after}
-use Rattle.cause.specs.Footprints.{shared_things}
-use Rattle.cause.specs.Visits.{same_visit, visits_to, IsBegin, IsSlot}
+use Rattle.footprints.specs.Footprints.{shared_things}
+use Rattle.footprints.specs.Visits.{same_visit, visits_to, IsBegin, IsSlot}
 use Rattle.cause.specs.Behind.{statement_behind}
-use Rattle.cause.specs.Swaps.{IsFirstSwap, HasNoSwap}
-use Rattle.cause.specs.declared.visit.Visit.{Visit}
+use Rattle.footprints.specs.Swaps.{IsFirstSwap, HasNoSwap}
+use Rattle.footprints.specs.declared.visit.Visit.{Visit}
 use Rattle.cause.specs.declared.cause.Blamed.{Blamed}
 use Rattle.cause.specs.declared.cause.Cause.{Cause}
 

@@ -1,21 +1,10 @@
 -- *internal*: States of runs, from which runs under logs are gone through.
-use Rattle.std.specs.Prelude.{◌≡◌, ℕ, suc, ◌+◌, ◌≤◌, nat_lt, false, if◌then◌else◌, List, [], ◌∷◌}
+use Rattle.std.specs.Prelude.{◌≡◌, ℕ, suc, ◌≤◌, false, List, [], ◌∷◌}
 use Rattle.sched_core.specs.Rules.{IsRun}
 use Rattle.vmodel.specs.Run.{Setting, rules_of, state_after}
-use Rattle.cause.specs.Visits.{Seen, due_at, seen_after, choice_of, is_in_slot}
+use Rattle.footprints.specs.Visits.{seen_after, choice_of, is_in_slot}
+use Rattle.footprints.specs.Keeping.{Keeps}
 use Rattle.cause.specs.declared.checkpoint.Checkpoint.{Checkpoint}
-use Rattle.cause.specs.declared.visit.Posted.{Posted}
-
--- of these updates those that are due at a time or later
-abbrev pub due_from : ℕ → List Posted → List Posted
-due_from time [] = []
-due_from time (p ∷ posted) = if nat_lt (p.at + p.after) time then due_from time posted else p ∷ due_from time posted
-
--- what is kept of what was seen: nothing is missed from this time on
-pub record Keeps (time : ℕ) (kept seen : Seen) : Type 0 where
-  pub due : (t : ℕ) → time ≤ t → due_at t kept.posted ≡ due_at t seen.posted
-  pub updates : kept.updates ≡ seen.updates
-  pub visits : kept.visits ≡ seen.visits
 
 -- a checkpoint of a run: the state in which the run under a log stands before the first step of a slot, and what is kept of what was seen of
 -- it up to there

@@ -3,8 +3,8 @@ use Rattle.std.specs.Prelude.{◌≡◌, ℕ, ◌<◌, ◌≤◌, true, List}
 use Rattle.vmodel.specs.State.{State}
 use Rattle.vmodel.specs.Run.{Setting}
 use Rattle.vmachine.specs.Inner.{IsAt}
-use Rattle.cause.specs.Visits.{Seen, IsBegin, seen_after, choice_of, is_in_slot}
-use Rattle.cause.specs.Checkpoints.{Keeps}
+use Rattle.footprints.specs.Visits.{Seen, IsBegin, seen_after, choice_of, is_in_slot}
+use Rattle.footprints.specs.Keeping.{Keeps}
 
 -- after n steps the run stands here, and this was seen of it
 pub record IsSeenSo (setting : Setting) (log : List (ℕ × ℕ)) (steps from : ℕ) (rest : List (ℕ × ℕ)) (n : ℕ) (state : State) (seen : Seen) : Type 0 where

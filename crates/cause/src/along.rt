@@ -6,18 +6,18 @@ ghost use Rattle.sched_core.specs.Rules.{IsRun};
 ghost use Rattle.vmodel.specs.Run.{Setting, rules_of};
 ghost use Rattle.cause.specs.Causes.{AreCauses};
 ghost use Rattle.cause.specs.Checkpoints.{IsCheckpointOf};
-ghost use Rattle.cause.specs.Visits.{is_in_slot};
+ghost use Rattle.footprints.specs.Visits.{is_in_slot};
 
 use crate::cause::{Cause, cause_from};
 use crate::checkpoint::Checkpoint;
 use crate::slot::left_at;
 use crate::step::take;
-use crate::visit::Seen;
 use basis::NoMemory;
+use footprints::visit::Seen;
+use plain_steps::State;
 use sched_core::{Log, Member, next_choice};
 use std::alloc::Global;
 use vmachine::Machine;
-use vmodel::State;
 use vmodel::choice::Choice;
 
 // The checkpoint before a step: this state, if the step before that, which is of a choice, began a slot, else the one that there is.

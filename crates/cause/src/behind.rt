@@ -5,8 +5,8 @@ ghost use Rattle.cause.specs.Behind as spec;
 ghost use Rattle.cause.specs.Inner.{whole};
 
 use crate::slot::Slot;
-use crate::thing::{Thing, meet};
-use crate::visit::Visit;
+use footprints::thing::{Thing, meet};
+use footprints::visit::Visit;
 use vdesign::action::Action;
 
 // Whether the action at a place of the table is a port connection or an `assign`.

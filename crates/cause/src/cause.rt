@@ -4,16 +4,16 @@ ghost use Rattle.std.specs.Prelude.{◌≡◌, ◌<◌, ◌≤◌, length, IfOk,
 ghost use Rattle.sched_core.specs.Logs.{IsLogFrom};
 ghost use Rattle.cause.specs.Causes as spec;
 ghost use Rattle.cause.specs.Checkpoints.{IsCheckpointOf};
-ghost use Rattle.cause.specs.Swaps.{HasNoSwap};
+ghost use Rattle.footprints.specs.Swaps.{HasNoSwap};
 
 use crate::behind::statement_behind;
 use crate::checkpoint::Checkpoint;
 use crate::checkpoints::Checkpoints;
 use crate::slot::{Slot, first_step, visits_of_slot};
-use crate::swap::first_swap;
-use crate::thing::{Things, shared_things};
-use crate::visit::{Actor, Visit, is_same_visit};
 use basis::NoMemory;
+use footprints::swap::first_swap;
+use footprints::thing::{Things, shared_things};
+use footprints::visit::{Actor, Visit, is_same_visit};
 use sched_core::{Log, Member};
 use std::alloc::Global;
 use vdesign::action::Action;
@@ -32,12 +32,22 @@ pub struct Blamed {
 
 /// The first two visits that touch and that both runs take in another order: the one that comes first in the run under the log, and the one
 /// that comes first in its parent; the step from which on the runs differ, and what both touch.
-#[derive(Drop)]
 pub struct Cause {
     pub step: u32,
     pub first: Blamed,
     pub second: Blamed,
     pub things: Things,
+}
+
+impl Drop for Cause {
+    fn drop(self) {
+        let Cause {
+            step: _,
+            first: _,
+            second: _,
+            things: _,
+        } = self;
+    }
 }
 
 // The step that the last member names.

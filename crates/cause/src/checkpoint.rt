@@ -4,11 +4,11 @@ ghost use Rattle.std.specs.Prelude.{◌≡◌, ℕ, List, IfOk};
 ghost use Rattle.vmodel.specs.Run.{Setting};
 ghost use Rattle.cause.specs.Checkpoints.{IsCheckpoint, IsCheckpointOf};
 
-use crate::visit::Seen;
 use basis::NoMemory;
+use footprints::visit::Seen;
+use plain_steps::State;
 use std::alloc::Global;
 use vmachine::Machine;
-use vmodel::State;
 
 /// The state in which a run stands before the first step of a slot, and what is kept of what was seen of it up to there.
 #[derive(Drop)]

@@ -3,17 +3,17 @@
 ghost use Rattle.std.specs.Prelude.{◌≡◌, ◌≤◌, false, Some, IfOk, IfSome};
 ghost use Rattle.vmodel.specs.Run.{Setting};
 ghost use Rattle.cause.specs.Checkpoints.{IsCheckpoint, IsCheckpointOf};
-ghost use Rattle.cause.specs.Visits.{is_in_slot};
+ghost use Rattle.footprints.specs.Visits.{is_in_slot};
 ghost use Rattle.cause.specs.Checkpoints as spec;
 
 use crate::checkpoint::Checkpoint;
 use crate::step::take;
-use crate::visit::Seen;
 use basis::NoMemory;
+use footprints::visit::Seen;
+use plain_steps::State;
 use std::alloc::Global;
 use std::marker::Model;
 use vmachine::Machine;
-use vmodel::State;
 use vmodel::choice::Choice;
 
 /// How many checkpoints stand at most.

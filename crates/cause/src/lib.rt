@@ -8,17 +8,9 @@ mod behind;
 mod cause;
 mod checkpoint;
 mod checkpoints;
-mod footprint;
-mod index;
-mod latest;
 mod slot;
 mod step;
-mod swap;
-mod thing;
-mod visit;
 
 pub use along::causes_of;
 pub use cause::{Blamed, Cause, cause_of};
 pub use checkpoints::Checkpoints;
-pub use thing::{Thing, Things};
-pub use visit::Actor;

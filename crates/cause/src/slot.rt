@@ -6,16 +6,16 @@ ghost use Rattle.sched_core.proofs.RunLemmas.{IsLeft};
 ghost use Rattle.cause.specs.Causes.{AreEarlier, AreVisits, HasNoSlot};
 ghost use Rattle.cause.specs.Checkpoints.{IsCheckpointOf};
 ghost use Rattle.cause.specs.Stands.{StandsBefore};
-ghost use Rattle.cause.specs.Visits as spec;
+ghost use Rattle.footprints.specs.Visits as spec;
 
 use crate::checkpoint::Checkpoint;
 use crate::step::take;
-use crate::visit::{Seen, Visit};
 use basis::NoMemory;
+use footprints::visit::{Seen, Visit};
+use plain_steps::State;
 use sched_core::{Member, next_choice};
 use std::alloc::Global;
 use vmachine::Machine;
-use vmodel::State;
 use vmodel::choice::Choice;
 
 // The choice of a step, if it goes on with the slot.

@@ -2,14 +2,14 @@
 
 ghost use Rattle.std.specs.Prelude.{◌≡◌, ◌+◌, ◌≤◌, OnOk};
 ghost use Rattle.vmodel.specs.Step.{next};
-ghost use Rattle.cause.specs.Checkpoints.{Keeps};
-ghost use Rattle.cause.specs.Visits as spec;
+ghost use Rattle.footprints.specs.Keeping.{Keeps};
+ghost use Rattle.footprints.specs.Visits as spec;
 
-use crate::visit::{Seen, acting_place};
 use basis::NoMemory;
+use footprints::visit::{Seen, acting_place};
+use plain_steps::State;
 use std::alloc::Global;
 use vdesign::design::Design;
-use vmodel::State;
 use vmodel::choice::Choice;
 
 // Takes a step of a choice, and sees it.

@@ -16,7 +16,7 @@ use Rattle.vmodel.specs.declared.effect.Post.{Post}
 use Rattle.vmodel.specs.declared.effect.Disposition.{Disposition}
 use Rattle.vmodel.specs.declared.effect.Disposition.TheVariants.{Runnable, Delayed, Waiting}
 use Rattle.vmodel.specs.declared.part.Part.{Part}
-use Rattle.vmodel.specs.declared.process.Frame.{Frame}
+use Rattle.vmodel.specs.declared.frame.Frame.{Frame}
 use Rattle.vmodel.specs.declared.choice.Choice.{Choice}
 use Rattle.vmodel.specs.declared.choice.Choice.TheVariants.{Run, Update, Advance}
 use Rattle.vmodel.specs.Queue.{Later, Queue, slot_with_sleeper, slot_with_update, later_at, later}
@@ -25,7 +25,7 @@ use Rattle.vmodel.specs.Choices.{choices}
 use Rattle.vmodel.specs.Step.{Transition, StepResult, environment_of, execute_at, place_of, with_next_step, becomes_inactive, with_delay, reschedule, posts_after, posts, process_to_continue, with_strobe, activate_next_region, with_moves_by, with_woken, with_step, transition_with, action_transition, continuation_transition, continuation_of, held_of, without_update, with_update, with_advance, transition_of, transition_by, next, shown_items, idle_items, slot_end_by, slot_end_of, strobe_items, before_end, end_items, items_of}
 use Rattle.vmodel.specs.Run.{Setting, opening_of, state_after, items_after, history_after}
 use Rattle.vmodel.specs.RunProgress.{opening_is, after_is}
-use Rattle.vmodel.specs.RunLaws.{IsAlwaysKept, IsAlwaysFull, IsAlwaysShaped, ShowsOnlySlotEnds}
+use Rattle.plain_steps.specs.RunLaws.{IsAlwaysKept, IsAlwaysFull, IsAlwaysShaped, ShowsOnlySlotEnds}
 use Rattle.vmodel.specs.Kept.{FutureFrom, AreShaped}
 use Rattle.vcd_text.specs.DumpText.{vcd}
 use Rattle.dump_law.specs.Small.{IsSmallVariable, IsSmall}

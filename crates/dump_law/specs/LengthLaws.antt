@@ -1,7 +1,7 @@
 -- *internal*: How long dumps are; `dumps_are_short` proves it.
 use Rattle.std.specs.Prelude.{ℕ, ◌<◌, ◌^◌, List, Option, length}
 use Rattle.basis.specs.declared.timescale.Timescale.{Timescale}
-use Rattle.vast.specs.Words.{Text}
+use Rattle.vwords.specs.Words.{Text}
 use Rattle.vast.specs.NumberedModules.{SourceTree}
 use Rattle.vdesign.specs.Design.{Design}
 use Rattle.vhierarchy.specs.Instances.{Elaborates}

@@ -4,7 +4,7 @@ use Rattle.sched_core.specs.Rules.{stands}
 use Rattle.vmodel.specs.State.{State}
 use Rattle.vmodel.specs.Run.{Setting, rules_of, is_mark, state_after}
 use Rattle.vmodel.specs.RunProgress.{width_is}
-use Rattle.vmodel.specs.RunLaws.{GoesOnOneWay, GoesOnLater, StaysInSlot}
+use Rattle.plain_steps.specs.RunLaws.{GoesOnOneWay, GoesOnLater, StaysInSlot}
 use Rattle.vmachine.specs.declared.machine_state.MachineState.{MachineState}
 use Rattle.vmachine.specs.Machines.{machine_rules, rank_of}
 use Rattle.vmachine.specs.MachineLaws.{HasSameWidth, HasSameMarks, HasTimeAsRank, RunsAsSetting, StandsThroughout}

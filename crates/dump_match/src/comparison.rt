@@ -16,16 +16,23 @@ use vcd_slots::Columns;
 use vdesign::design::{Design, Variable};
 
 /// A variable that stands in both: its column of the dump, and its number in the design.
-#[derive(Drop)]
 pub struct Pair {
     pub column: usize,
     pub variable: usize,
 }
 
+impl Drop for Pair {
+    fn drop(self) {
+        let Pair {
+            column: _,
+            variable: _,
+        } = self;
+    }
+}
+
 /// What is compared: the variables that stand in both with one name and as many bits; and the names of the others. A name of `repeated` is of
 /// a further variable of the dump that has the name of one that is compared. Where all names of the dump have a scope round the top module,
 /// that one was left out.
-#[derive(Drop)]
 pub struct Comparison {
     pub pairs: Vec<Pair>,
     pub only_in_dump: Vec<Vec<u8>>,
@@ -33,6 +40,19 @@ pub struct Comparison {
     pub of_other_width: Vec<Vec<u8>>,
     pub repeated: Vec<Vec<u8>>,
     pub left_out: Option<Vec<u8>>,
+}
+
+impl Drop for Comparison {
+    fn drop(self) {
+        let Comparison {
+            pairs: _,
+            only_in_dump: _,
+            only_in_files: _,
+            of_other_width: _,
+            repeated: _,
+            left_out: _,
+        } = self;
+    }
 }
 
 // What a variable of the dump is to those of the files.

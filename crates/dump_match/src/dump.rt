@@ -9,7 +9,6 @@ use vmachine::Machine;
 
 /// The dump that another simulator wrote of a machine's files, what of it is compared, and which of the pairs had a value in what was shown. It
 /// is read as the search goes on, and not held.
-#[derive(Drop)]
 pub struct DumpReference<'m, R> {
     pub(crate) alloc: Global,
     pub(crate) machine: &'m Machine,
@@ -17,4 +16,16 @@ pub struct DumpReference<'m, R> {
     pub(crate) comparison: Comparison,
     pub(crate) known: Vec<bool>,
     ghost under_way: { IsUnderWay slots },
+}
+
+impl<'m, R: Drop> Drop for DumpReference<'m, R> {
+    fn drop(self) {
+        let DumpReference {
+            alloc: _,
+            machine: _,
+            slots: _,
+            comparison: _,
+            known: _,
+        } = self;
+    }
 }

@@ -8,12 +8,12 @@ use crate::dump::DumpReference;
 use basis::OrMemory;
 use explore::Watcher;
 use matching::{Matching, match_runs};
+use plain_steps::run_law;
 use statebook::Limits;
 use std::alloc::Global;
 use std::io::Read;
 use vcd_read::VcdFault;
 use vmachine::{MachineState, machine_law};
-use vmodel::run_law;
 
 /// Looks for a run of the machine whose values at the end of each slot are those of the dump, with at most `limits.depart` departures
 /// in each slot; `limits.steps` and `limits.entries` are those of the search of one slot.

@@ -1,6 +1,6 @@
 -- Ports that are declared again, and ports that items declare.
 use Rattle.std.proofs.Common.{◌≡◌, Bool, Option, None, Some, Ok, refl}
-use Rattle.vast.specs.Words.{Text}
+use Rattle.vwords.specs.Words.{Text}
 use Rattle.vast.specs.NumberedModules.{ItemTree, parameters, declaration, events, assignments, initial, always, instances}
 use Rattle.vdesign.specs.declared.expression.Bounds.{Bounds}
 use Rattle.vmodules.specs.Ports.{Second, own_item}

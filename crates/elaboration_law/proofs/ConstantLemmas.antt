@@ -1,6 +1,6 @@
 -- E307: in a text that has a design no constant uses a variable or the time, and in one that is refused under the rule one does.
 use Rattle.std.proofs.Common.{◌≡◌, not, Option, refl, sym, ◌∙◌, ap}
-use Rattle.vast.specs.Words.{Text}
+use Rattle.vwords.specs.Words.{Text}
 use Rattle.vast.specs.NumberedModules.{SourceTree}
 use Rattle.velab_expr.specs.declared.fault.Rule.TheVariants.{Constant}
 use Rattle.velab_expr.specs.declared.fault.ElabFault.{ElabFault}

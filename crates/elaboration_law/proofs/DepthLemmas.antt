@@ -1,7 +1,7 @@
 -- E308: a text that has a design isn't too deep, and one that is refused under the rule is.
 use Rattle.std.proofs.Common.{◌≡◌, Option, Some, Ok, refl, subst, arith, sym, ◌∙◌, ap}
 use Rattle.basis.specs.declared.timescale.Timescale.{Timescale}
-use Rattle.vast.specs.Words.{Text}
+use Rattle.vwords.specs.Words.{Text}
 use Rattle.vast.specs.NumberedModules.{ModuleTree, SourceTree}
 use Rattle.vdesign.specs.Design.{Design}
 use Rattle.vmodules.specs.Hierarchy.{top_of}

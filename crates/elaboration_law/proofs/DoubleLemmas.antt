@@ -4,7 +4,7 @@ use Rattle.std.specs.Str.{bytes_eq}
 use Rattle.std.proofs.lemmas.List.{append-nil}
 use Rattle.std.proofs.lemmas.List.Folds.{list_any-append}
 use Rattle.basis.proofs.Bools.{or_second, or_first}
-use Rattle.vast.specs.Words.{Text}
+use Rattle.vwords.specs.Words.{Text}
 use Rattle.vast.specs.NumberedWords.{Word}
 use Rattle.vmodules.specs.Names.{is_declared, has_double, letters_of, again_behind, first_again}
 use Rattle.vmodules.proofs.NameLemmas.{double_at, no_double-push}

@@ -1,7 +1,7 @@
 -- What a design gathers of its instances: it is what stands in the list of all of them.
 use Rattle.std.proofs.Common.{◌≡◌, ℕ, zero, suc, List, [], ◌∷◌, ◌++◌, map, Ok, sym, ap, ◌∙◌}
 use Rattle.std.specs.List.{flat_map}
-use Rattle.vast.specs.Words.{Text}
+use Rattle.vwords.specs.Words.{Text}
 use Rattle.vast.specs.NumberedModules.{ModuleTree, SourceTree}
 use Rattle.vhierarchy.specs.Instances.{Instantiation, PartialDesign, Context, child_context, each, elaborate_instance, nothing, top_context, elaborate_top}
 use Rattle.velab_expr.specs.Scopes.{Scope}

@@ -2,7 +2,7 @@
 use Rattle.std.proofs.Common.{◌≡◌, ℕ, ◌+◌, nat_le, nat_lt, Bool, true, false, not, List, [], ◌∷◌, length, Option, Some, None, Result, Ok, refl}
 use Rattle.std.specs.List.{flat_map}
 use Rattle.vast.specs.NumberedExpressions as text
-use Rattle.vast.specs.Words.{Text}
+use Rattle.vwords.specs.Words.{Text}
 use Rattle.vast.specs.NumberedWords.{Word}
 use Rattle.vast.specs.NumberedModules.{ParameterType, integer, typed, SettingTree, DeclarationKind, variables, integers, directed, ConnectionsTree, InstanceTree, ItemTree, parameters, declaration, events, assignments, initial, always, instances, ModuleTree, SourceTree}
 use Rattle.vmodules.specs.Names.{is_declared, letters_of, first_again}

@@ -2,7 +2,7 @@
 use Rattle.std.proofs.Common.{◌≡◌, nat_le, true, List, [], ◌∷◌, ◌++◌, map, length, Some, Result, Ok, ◌⊎◌, inl, inr, Err, refl, sym, ap, ◌∙◌}
 use Rattle.std.specs.List.{flat_map}
 use Rattle.std.proofs.lemmas.List.{map-append}
-use Rattle.vast.specs.Words.{Text}
+use Rattle.vwords.specs.Words.{Text}
 use Rattle.vast.specs.NumberedWords.{Word}
 use Rattle.vast.specs.NumberedModules.{DeclarationKind, variables, integers, directed, DeclaredTree, ItemTree, parameters, declaration, events, assignments, initial, always, instances, SourceTree}
 use Rattle.vmodules.specs.Ports.{Port, ports_of, own_items}

@@ -7,7 +7,7 @@ use Rattle.vbits.specs.Letters.{is_unknown}
 use Rattle.vbits.specs.Vectors.{filled, of_number, with_sign}
 use Rattle.vbits.specs.PlanesBack.{length-letters_of}
 use Rattle.vbits.proofs.LettersOf.{digits-letters_of}
-use Rattle.vast.specs.Words.{Text}
+use Rattle.vwords.specs.Words.{Text}
 use Rattle.vast.specs.NumberedExpressions as text
 use Rattle.vvalue.specs.Value.{size_by, unary_size, part_size, size_of}
 use Rattle.vvalue.specs.OperandRules.{operand_rule, unary_operand_rule}

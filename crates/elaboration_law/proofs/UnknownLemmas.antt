@@ -5,7 +5,7 @@ use Rattle.std.specs.List.{Contains, flat_map, list_all}
 use Rattle.std.specs.Option.{option_or}
 use Rattle.std.proofs.lemmas.List.{append-nil}
 use Rattle.basis.specs.declared.timescale.Timescale.{Timescale}
-use Rattle.vast.specs.Words.{Text}
+use Rattle.vwords.specs.Words.{Text}
 use Rattle.vast.specs.NumberedModules.{ModuleTree, SourceTree}
 use Rattle.vdesign.specs.Design.{Design}
 use Rattle.vmodules.specs.Names.{has_double}

@@ -4,7 +4,7 @@ use Rattle.std.specs.List.{flat_map}
 use Rattle.std.proofs.lemmas.List.{map-append}
 use Rattle.vbits.specs.declared.bit4.Bit4.TheVariants.{X}
 use Rattle.vbits.specs.Vectors.{Vector, filled}
-use Rattle.vast.specs.Words.{Text}
+use Rattle.vwords.specs.Words.{Text}
 use Rattle.vast.specs.NumberedModules.{RangeTree, DeclarationKind, variables, integers, directed, DeclaredTree, ItemTree, parameters, declaration, events, assignments, initial, always, instances}
 use Rattle.vdesign.specs.Design.{Variable}
 use Rattle.vdesign.specs.declared.design.Kind.{Kind}

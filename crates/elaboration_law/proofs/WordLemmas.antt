@@ -8,7 +8,7 @@ use Rattle.std.proofs.lemmas.List.{map-append}
 use Rattle.std.proofs.lemmas.List.Folds.{list_any-append}
 use Rattle.std.proofs.lemmas.List.Elements.{filter-append}
 use Rattle.basis.proofs.Bools.{or_first, or_second}
-use Rattle.vast.specs.Words.{Text}
+use Rattle.vwords.specs.Words.{Text}
 use Rattle.vast.specs.NumberedWords.{Word}
 use Rattle.vmodules.specs.Names.{is_declared, has_double, letters_of, again_behind}
 use Rattle.vmodules.specs.Misdeclared.{outside, among}

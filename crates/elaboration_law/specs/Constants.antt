@@ -1,6 +1,6 @@
 -- *trusted*: E307: constants that use a variable or the time (IEEE 1364-2005, 4.3.1, 4.10, 5.1.14, 5.2.1).
 use Rattle.std.specs.Prelude.{Bool, true, not, ◌&&◌, Option}
-use Rattle.vast.specs.Words.{Text}
+use Rattle.vwords.specs.Words.{Text}
 use Rattle.vast.specs.NumberedModules.{SourceTree}
 use Rattle.vmodules.specs.Names.{is_declared}
 use Rattle.elaboration_law.specs.Uses.{Use, use_of, use_of_time, use_of_formats, use_of_levels}

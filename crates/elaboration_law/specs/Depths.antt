@@ -1,6 +1,6 @@
 -- *product rule*: E308: how deep instances may nest.
 use Rattle.std.specs.Prelude.{Option}
-use Rattle.vast.specs.Words.{Text}
+use Rattle.vwords.specs.Words.{Text}
 use Rattle.vast.specs.NumberedModules.{SourceTree}
 use Rattle.elaboration_law.specs.Hierarchy.{Instance, StandsAt}
 

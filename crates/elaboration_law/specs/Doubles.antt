@@ -1,7 +1,7 @@
 -- *trusted*: E302: names that are declared twice (IEEE 1364-2005, 4.11, 12.7).
 use Rattle.std.specs.Prelude.{◌≡◌, ℕ, Bool, true, ◌||◌, List, [], ◌∷◌, ◌++◌, map, Option, Some}
 use Rattle.std.specs.List.{Contains, flat_map}
-use Rattle.vast.specs.Words.{Text}
+use Rattle.vwords.specs.Words.{Text}
 use Rattle.vast.specs.NumberedWords.{Word}
 use Rattle.vast.specs.NumberedModules.{ConnectionsTree, InstanceTree, instances, ModuleTree, SourceTree}
 use Rattle.vmodules.specs.Names.{has_double, letters_of}

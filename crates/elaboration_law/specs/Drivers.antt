@@ -1,6 +1,6 @@
 -- *product rule*: E304: bits of nets with more than one driver. No strength resolves them (IEEE 1364-2005, 4.6).
 use Rattle.std.specs.Prelude.{◌≡◌, ◌<◌, ℕ, slice_get, Option, Some, Ok}
-use Rattle.vast.specs.Words.{Text}
+use Rattle.vwords.specs.Words.{Text}
 use Rattle.vast.specs.NumberedModules.{ModuleTree, SourceTree}
 use Rattle.vmodules.specs.Hierarchy.{top_of}
 use Rattle.velab_declaration.specs.Drives.{Place}

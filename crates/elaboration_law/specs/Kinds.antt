@@ -2,7 +2,7 @@
 -- variables (IEEE 1364-2005, 4.2, 4.8, 4.10, 5.2.1, 6.1, 6.2, 9.7.2, 9.7.3, 12.1.2, 12.5, 17.1.1, 18.1.2, A.2.1.2).
 use Rattle.std.specs.Prelude.{◌≡◌, ℕ, Bool, true, false, not, ◌&&◌, ◌||◌, if◌then◌else◌, List, [], ◌∷◌, Option, None, Some, is_some, codes}
 use Rattle.std.specs.List.{Contains, flat_map, list_all}
-use Rattle.vast.specs.Words.{Text}
+use Rattle.vwords.specs.Words.{Text}
 use Rattle.vast.specs.NumberedStatements.{ArgumentTree, quoted, printed, left_out}
 use Rattle.vast.specs.NumberedModules.{SourceTree, ModuleTree}
 use Rattle.vmodules.specs.Names.{is_declared}

@@ -1,7 +1,7 @@
 -- *internal*: What it is to say what a rule forbids: laws, which `elaboration_rules` proves.
 use Rattle.std.specs.Prelude.{◌≡◌, Option, Ok, Err}
 use Rattle.basis.specs.declared.timescale.Timescale.{Timescale}
-use Rattle.vast.specs.Words.{Text}
+use Rattle.vwords.specs.Words.{Text}
 use Rattle.vast.specs.NumberedModules.{SourceTree}
 use Rattle.vdesign.specs.Design.{Design}
 use Rattle.velab_expr.specs.declared.fault.Rule.{Rule}

@@ -1,7 +1,7 @@
 -- *trusted*: E305: a connection or an override of an instance for which its module has no port or parameter (IEEE 1364-2005, 12.2.2, 12.3.5, 12.3.6, 12.3.9.2).
 use Rattle.std.specs.Prelude.{◌≡◌, ◌⊎◌, ℕ, true, List, Option, None, Some}
 use Rattle.std.specs.List.{Contains}
-use Rattle.vast.specs.Words.{Text}
+use Rattle.vwords.specs.Words.{Text}
 use Rattle.vast.specs.NumberedWords.{Word}
 use Rattle.vast.specs.NumberedExpressions.{ExpressionTree}
 use Rattle.vast.specs.NumberedModules.{ConnectionsTree, InstanceTree, instances, ModuleTree, SourceTree}

@@ -1,7 +1,7 @@
 -- *trusted*: E301: modules that aren't there (IEEE 1364-2005, 12.1.1, 12.1.2).
 use Rattle.std.specs.Prelude.{◌≡◌, ℕ, List, Option, None}
 use Rattle.std.specs.List.{Contains}
-use Rattle.vast.specs.Words.{Text}
+use Rattle.vwords.specs.Words.{Text}
 use Rattle.vast.specs.NumberedWords.{Word}
 use Rattle.vast.specs.NumberedModules.{ConnectionsTree, InstanceTree, instances, SourceTree}
 use Rattle.vmodules.specs.Hierarchy.{module_of, top_of}

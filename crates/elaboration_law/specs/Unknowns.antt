@@ -2,7 +2,7 @@
 -- nothing (IEEE 1364-2005, 4.10.1, 12.2, 12.5, 12.7, 18.1.2).
 use Rattle.std.specs.Prelude.{◌≡◌, Bool, true, false, ◌||◌, List, Option, Some}
 use Rattle.std.specs.List.{Contains, flat_map, list_all}
-use Rattle.vast.specs.Words.{Text}
+use Rattle.vwords.specs.Words.{Text}
 use Rattle.vast.specs.NumberedModules.{ModuleTree, SourceTree}
 use Rattle.vmodules.specs.Names.{is_declared}
 use Rattle.vmodules.specs.Hierarchy.{top_of}

@@ -2,7 +2,7 @@
 -- names are worth.
 use Rattle.std.specs.Prelude.{ℕ, ◌+◌, ◌*◌, nat_le, Bool, true, ◌&&◌, length, Option, None, Some, is_some}
 use Rattle.vbits.specs.Vectors.{Vector}
-use Rattle.vast.specs.Words.{Text}
+use Rattle.vwords.specs.Words.{Text}
 use Rattle.vast.specs.NumberedExpressions as text
 use Rattle.vast.specs.NumberedStatements.{TargetTree, TargetTrees, whole, bit, part, joined, none, first}
 use Rattle.vast.specs.NumberedModules.{RangeTree}

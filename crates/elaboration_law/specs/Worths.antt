@@ -5,7 +5,7 @@ use Rattle.std.specs.List.{list_all}
 use Rattle.std.specs.Str.{bytes_eq}
 use Rattle.vbits.specs.declared.bit4.Bit4.TheVariants.{X}
 use Rattle.vbits.specs.Vectors.{filled}
-use Rattle.vast.specs.Words.{Text}
+use Rattle.vwords.specs.Words.{Text}
 use Rattle.vast.specs.NumberedExpressions as text
 use Rattle.vast.specs.NumberedModules.{ParameterType, integer, typed, RangeTree, DeclarationKind, variables, integers, directed, ItemTree, parameters, declaration, events, assignments, initial, always, instances, ModuleTree}
 use Rattle.vdesign.specs.Expressions as design

@@ -19,11 +19,11 @@ use crate::size::{
 use basis::NoMemory;
 use std::alloc::Global;
 use std::slice::from_ref;
-use vast::expression::{BinaryOperator, UnaryOperator};
 use vbits::Vec4;
 use vdesign::design::Variable;
 use vdesign::expression::{Bounds, Constant, Expression, Node};
 use vvalue::operand_rule::{OperandRule, operand_rule_of, unary_operand_rule_of};
+use vwords::operators::{BinaryOperator, UnaryOperator};
 
 // One operation more.
 fn put(code: &mut Vec<Operation>, operation: &Operation) -> Result<(), NoMemory>

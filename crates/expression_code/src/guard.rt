@@ -31,10 +31,15 @@ pub struct Guard {
 
 /// The code of an expression with its guards: where each of them holds, the code's value is that of the expression. A clause sees it as
 /// the record `GuardedCode` of specs/Guards.antt.
-#[derive(Drop)]
 pub struct GuardedCode {
     guards: Vec<Guard>,
     code: ExpressionCode,
+}
+
+impl Drop for GuardedCode {
+    fn drop(self) {
+        let GuardedCode { guards: _, code: _ } = self;
+    }
 }
 
 impl Model for GuardedCode {

@@ -77,9 +77,14 @@ pub enum Operation {
 }
 
 /// The code of an expression: its operations in a list, each before its operands. A clause sees it as the tree of specs/Code.antt.
-#[derive(Drop)]
 pub struct ExpressionCode {
     operations: Vec<Operation>,
+}
+
+impl Drop for ExpressionCode {
+    fn drop(self) {
+        let ExpressionCode { operations: _ } = self;
+    }
 }
 
 impl Model for ExpressionCode {

@@ -12,7 +12,7 @@ use Rattle.vmodel.specs.State.{State}
 use Rattle.vmodel.specs.Choices.{in_order, first_update, or_advance, offered_choices, free_among, order_by, order_of, taking_or_holding, choices_by, choices}
 use Rattle.vmodel.specs.Holding.{release}
 use Rattle.vmodel.specs.Run.{Setting, state_after}
-use Rattle.vmodel.specs.RunLaws.{IsAlwaysKept}
+use Rattle.plain_steps.specs.RunLaws.{IsAlwaysKept}
 use Rattle.vmodel.specs.Kept.{AreHeldBack, IsKept}
 use Rattle.holding_law.specs.Held.{held_in, IsHeld, IsActive, HasFree}
 use Rattle.holding_law.proofs.MemberLemmas.{IsIn, contains_in, in_contains, in_free}

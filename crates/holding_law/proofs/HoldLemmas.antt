@@ -15,7 +15,7 @@ use Rattle.vmodel.specs.Holding.{count_before, with_one_held, with_held, before_
 use Rattle.vmodel.specs.Step.{transition_of, transition_by}
 use Rattle.vmodel.specs.Run.{Setting, held_at_first, state_after}
 use Rattle.vmodel.specs.RunProgress.{opening_is, after_is}
-use Rattle.vmodel.specs.RunLaws.{IsAlwaysKept}
+use Rattle.plain_steps.specs.RunLaws.{IsAlwaysKept}
 use Rattle.holding_law.specs.Held.{held_in, IsHeld, IsBefore, StandsBefore, HasNothingElse, HoldsBefore}
 use Rattle.holding_law.proofs.MemberLemmas.{IsIn, contains_in, in_contains, in_left, in_still}
 use Rattle.holding_law.proofs.MayLemmas.{may_go}

@@ -7,7 +7,7 @@ use Rattle.sched_core.specs.declared.end.Cause.{Cause}
 use Rattle.vdesign.specs.Design.{Design}
 use Rattle.vdesign.specs.declared.action.Action.{Action}
 use Rattle.vmodel.specs.declared.part.Part.{Part}
-use Rattle.vmodel.specs.declared.process.Frame.{Frame}
+use Rattle.vmodel.specs.declared.frame.Frame.{Frame}
 use Rattle.vmodel.specs.declared.effect.Disposition.{Disposition}
 use Rattle.vmodel.specs.declared.effect.Disposition.TheVariants.{Runnable, Delayed, Waiting}
 use Rattle.vmodel.specs.declared.choice.Choice.{Choice}
@@ -19,7 +19,7 @@ use Rattle.vmodel.specs.Holding.{held_after}
 use Rattle.vmodel.specs.Step.{StepResult, environment_of, execute_at, held_of, continuation_of, process_to_continue, with_next_step, reschedule, posts, with_strobe, activate_next_region, with_moves_by, with_moves, with_step, with_woken, transition_with, action_transition, continuation_transition, without_update, with_update, with_advance, transition_of, with_views, transition_by, next}
 use Rattle.vmodel.specs.Run.{Setting, state_after}
 use Rattle.vmodel.specs.RunProgress.{opening_is, after_is}
-use Rattle.vmodel.specs.RunLaws.{IsAlwaysKept}
+use Rattle.plain_steps.specs.RunLaws.{IsAlwaysKept}
 use Rattle.vmodel.specs.Kept.{most_places, waits_of, IsKept}
 use Rattle.holding_law.specs.Held.{held_in, IsHeld, HasActions}
 use Rattle.holding_law.proofs.MemberLemmas.{IsIn, in_counts, contains_in}

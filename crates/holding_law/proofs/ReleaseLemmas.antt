@@ -15,7 +15,7 @@ use Rattle.vmodel.specs.Holding.{count_before, with_held, before_choice, held_wi
 use Rattle.vmodel.specs.Step.{transition_of, transition_by, next}
 use Rattle.vmodel.specs.Run.{Setting, state_after}
 use Rattle.vmodel.specs.RunProgress.{after_is}
-use Rattle.vmodel.specs.RunLaws.{IsAlwaysKept}
+use Rattle.plain_steps.specs.RunLaws.{IsAlwaysKept}
 use Rattle.vmodel.specs.Kept.{AreHeldBack}
 use Rattle.vmodel.specs.SlotEnds.{IsIdle}
 use Rattle.holding_law.specs.Held.{held_in, IsHeld}

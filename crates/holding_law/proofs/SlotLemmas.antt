@@ -26,7 +26,7 @@ use Rattle.vmodel.specs.Printed.{with_lines, lines_before, printed_after}
 use Rattle.vmodel.specs.Step.{Transition, transition_of, shown_items, idle_items, slot_end_by, slot_end_of, strobe_items, before_end, items_of, with_held_after, with_views, transition_by, next}
 use Rattle.vmodel.specs.Run.{Setting, rules_of, opening_of, printed_at_first, state_after, items_after}
 use Rattle.vmodel.specs.RunProgress.{opening_is, width_is, after_is}
-use Rattle.vmodel.specs.RunLaws.{IsAlwaysKept}
+use Rattle.plain_steps.specs.RunLaws.{IsAlwaysKept}
 use Rattle.vmodel.specs.SlotEnds.{IsIdle}
 use Rattle.holding_law.specs.SlotLines.{times_in, lines_in, AreWithin, HasSlotLines}
 use Rattle.holding_law.proofs.MemberLemmas.{IsIn}

@@ -16,7 +16,7 @@ use Rattle.vmodel.specs.Printed.{printed_after}
 use Rattle.vmodel.specs.Step.{Transition, transition_of, with_held_after, with_views, transition_by, next, items_of}
 use Rattle.vmodel.specs.Run.{Setting, rules_of, state_after, items_after}
 use Rattle.vmodel.specs.RunProgress.{opening_is, width_is, after_is}
-use Rattle.vmodel.specs.RunLaws.{IsAlwaysKept}
+use Rattle.plain_steps.specs.RunLaws.{IsAlwaysKept}
 use Rattle.holding_law.specs.TakingLaws.{taking, without_held, HasFewChoices, AreAlike, IsTakingRun}
 use Rattle.holding_law.proofs.SeenLemmas.{with_seen_after, transition-seen, items-seen}
 use Rattle.holding_law.proofs.AmongLemmas.{among, none_too}

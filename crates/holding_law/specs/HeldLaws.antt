@@ -1,7 +1,7 @@
 -- *internal*: What holds of what is held back, in every state of the runs of every setting; `holding_law` proves it.
 use Rattle.std.specs.Prelude.{◌≡◌, ℕ, suc, ◌*◌, ◌<◌, List, [], length, Option, Some, None, slice_get}
 use Rattle.basis.specs.declared.timescale.Timescale.{Timescale}
-use Rattle.vast.specs.Words.{Text}
+use Rattle.vwords.specs.Words.{Text}
 use Rattle.vast.specs.NumberedModules.{SourceTree}
 use Rattle.sched_core.specs.Rules.{choice_at}
 use Rattle.vhierarchy.specs.Instances.{Elaborates}

@@ -6,8 +6,8 @@ ghost use Rattle.holding_law.specs.HeldLaws.{CanHold, HasActionsByText, DefaultI
 ghost use Rattle.holding_law.specs.TakingLaws.{HoldingIsTaking};
 ghost use Rattle.holding_law.specs.LineLaws.{HoldsSlotLines, IsUnordered};
 
+use plain_steps::run_law;
 use statement_law::law::statement_law;
-use vmodel::run_law;
 
 /// The law of departures that hold back, and of lines that are looked at, which does nothing. Each run in which departures may hold
 /// back is, under another log, one in which they only take. What may be taken may also be taken while all that stands before it is

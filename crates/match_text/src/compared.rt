@@ -2,7 +2,7 @@
 
 use crate::told::Found;
 use basis::NoMemory;
-use race_text::{Piece, put, put_all};
+use race_words::{Piece, put, put_all};
 
 // How many names are told of a list.
 const NAMED: usize = 3;

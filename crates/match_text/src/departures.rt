@@ -2,7 +2,8 @@
 
 use crate::told::{Departure, Found};
 use basis::NoMemory;
-use race_text::{Piece, put, put_all, put_other_order, put_statements, put_time};
+use race_facts::{put_other_order, put_statements, put_time};
+use race_words::{Piece, put, put_all};
 use std::alloc::Global;
 
 // Whether both take the same two statements the same way, or of both it isn't known which.

@@ -5,7 +5,7 @@ use cause::Cause;
 use dump_match::{Comparison, Differing};
 use explore::RankedReason;
 use matching::{Cut, Matching};
-use race_text::{Sources, log_text};
+use race_facts::{Sources, log_text};
 use sched_core::Log;
 use sched_core::end::End;
 use std::alloc::Global;

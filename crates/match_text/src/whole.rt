@@ -6,9 +6,8 @@ use crate::told::Found;
 use basis::NoMemory;
 use dump_match::Differing;
 use matching::{Cut, Explanation, Matching, Unexplained};
-use race_text::{
-    Piece, put, put_all, put_end, put_files, put_option, put_time, put_value, put_word,
-};
+use race_facts::{put_end, put_time};
+use race_words::{Piece, put, put_all, put_files, put_option, put_value, put_word};
 use sched_core::Log;
 use sched_core::setting::Grain;
 use std::alloc::Global;

@@ -2,13 +2,13 @@
 use Rattle.std.proofs.Common.{◌≡◌, ◌<◌, ℕ, ◌+◌, ◌-◌, ◌^◌, min, List, ◌∷◌, length, drop, get_or, Vec, Global, Box, refl, sym, ap, ◌∙◌, arith, Option}
 use Rattle.std.specs.Option.{option_map}
 use Rattle.basis.proofs.Lists.{left_from}
-use Rattle.vast.specs.Words.{Text}
+use Rattle.vwords.specs.Words.{Text}
 use Rattle.vast.specs.NumberedWords.{word_of}
 use Rattle.vast.specs.NumberedStatements.{StatementTree, empty, block, assign, nonblocking, trigger, if_true, if_else, case_of, while_true, repeat_times, forever, for_loop, wait_for, delay, event, task}
 use Rattle.vast.specs.NumberedTrees.{tree_of, trees_of, target_tree, target_trees, statement_tree, statement_trees, branch_trees}
 use Rattle.vast.specs.declared.expression.Expression.{Expression, Concatenation, Replication}
 use Rattle.vast.specs.declared.statement.Target.{Target, Joined}
-use Rattle.vast.specs.declared.statement.CaseKind.{CaseKind}
+use Rattle.vwords.specs.declared.cases.CaseKind.{CaseKind}
 use Rattle.vast.specs.declared.statement.Branch.{Branch}
 use Rattle.vast.specs.declared.statement.Statement.{Statement, Block, Case}
 use Rattle.vast.proofs.ToldTrees.{told_concatenation, told_replication, told_joined, told_block, told_case}

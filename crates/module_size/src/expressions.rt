@@ -2,7 +2,7 @@
 
 ghost use Rattle.std.specs.Prelude.{◌≡◌, ◌-◌, List};
 ghost use Rattle.vast.specs.NumberedTrees.{tree_of, trees_of};
-ghost use Rattle.vast.specs.Words.{Text};
+ghost use Rattle.vwords.specs.Words.{Text};
 ghost use Rattle.module_size.specs.Sizes.{expression_size, expressions_size};
 
 use vast::expression::Expression;

@@ -2,7 +2,7 @@
 
 ghost use Rattle.std.specs.Prelude.{◌≡◌, ◌-◌, List, map, option_map};
 ghost use Rattle.vast.specs.NumberedTrees.{connection_tree, connections_tree, declaration_kind, declared_tree, direction_tree, head_parameter, instance_tree, item_tree, module_tree, net_assignment, parameter_type, port_tree, range_tree, setting_tree, tree_of, type_tree};
-ghost use Rattle.vast.specs.Words.{Text};
+ghost use Rattle.vwords.specs.Words.{Text};
 ghost use Rattle.vexpr_parse.specs.Texts.{words_of};
 ghost use Rattle.module_size.specs.Sizes.{connection_size, connections_size, declaration_kind_size, declared_size, direction_size, expression_size, head_size, instance_size, item_size, module_size, net_assignment_size, parameter_type_size, port_size, range_size, setting_size, size_if, size_of, type_size};
 

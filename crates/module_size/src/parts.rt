@@ -3,7 +3,7 @@
 ghost use Rattle.std.specs.Prelude.{◌≡◌, ◌-◌, List, map, option_map};
 ghost use Rattle.vast.specs.NumberedTrees.{argument_tree, delay_tree, event_tree, path_tree, selection_tree, target_tree, target_trees, task_tree, tree_of};
 ghost use Rattle.vast.specs.NumberedWords.{word_of};
-ghost use Rattle.vast.specs.Words.{Text};
+ghost use Rattle.vwords.specs.Words.{Text};
 ghost use Rattle.vexpr_parse.specs.Texts.{words_of};
 ghost use Rattle.module_size.specs.Sizes.{argument_size, assignment_size, delay_size, event_size, letter_size, pair_size, path_size, selection_size, size_if, size_of, string_size, target_size, targets_size, task_size, word_size};
 

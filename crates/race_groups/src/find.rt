@@ -13,11 +13,11 @@ use crate::collected::RaceGroups;
 use crate::group::{Difference, Group, Races, Scope};
 use basis::NoMemory;
 use explore::{FoundMark, RankedFindings, Watcher, explore_ranked};
+use plain_steps::run_law;
 use sched_core::Log;
 use statebook::Limits;
 use std::alloc::Global;
 use vmachine::{Machine, MachineState, machine_law};
-use vmodel::run_law;
 
 // The log of the first that has departures.
 fn departed_log(alloc: Global, ends: &[FoundMark<MachineState>]) -> Result<Log, NoMemory>

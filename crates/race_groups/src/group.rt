@@ -21,7 +21,6 @@ pub struct Scope {
 }
 
 /// What runs differ in.
-#[derive(Drop)]
 pub enum Difference {
     /// A variable has two or more values at the end of a slot.
     Values(Race),
@@ -32,6 +31,16 @@ pub enum Difference {
     Ends(Vec<FoundMark<MachineState>>),
 }
 
+impl Drop for Difference {
+    fn drop(self) {
+        match self {
+            Difference::Values(_) => {}
+            Difference::Lines(_) => {}
+            Difference::Ends(_) => {}
+        }
+    }
+}
+
 /// A difference by its name: a variable at a time or, where it is of none, the lines of a time.
 #[derive(Clone, Copy)]
 pub struct Name {
@@ -40,7 +49,6 @@ pub struct Name {
 }
 
 /// Differences that one cause explains.
-#[derive(Drop)]
 pub struct Group {
     /// The cause of the run under the log; none where none was found.
     pub cause: Option<Cause>,
@@ -54,6 +62,19 @@ pub struct Group {
     pub more: u64,
     /// The time of the last of them; where none follows, that of the first.
     pub last: u64,
+}
+
+impl Drop for Group {
+    fn drop(self) {
+        let Group {
+            cause: _,
+            log: _,
+            first: _,
+            next: _,
+            more: _,
+            last: _,
+        } = self;
+    }
 }
 
 /// What a search for races found, and how far it came.

@@ -5,7 +5,7 @@ use crate::lane::{HEIGHT, WIDTH, column_at, put_lane};
 use crate::shape::{Extent, put_rectangle, put_text};
 use crate::signals::Signals;
 use basis::NoMemory;
-use race_text::put_time;
+use race_facts::put_time;
 use run_pair::{Runs, Waves};
 use std::alloc::Global;
 use vbits::Vec4;

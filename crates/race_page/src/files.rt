@@ -1,7 +1,7 @@
 // The lines of the files.
 
 use basis::NoMemory;
-use race_text::Sources;
+use race_facts::Sources;
 use std::alloc::Global;
 use vsrc::Place;
 

@@ -3,7 +3,7 @@
 use crate::html::put;
 use crate::shape::{Extent, put_rectangle, put_text};
 use basis::NoMemory;
-use race_text::put_value;
+use race_words::put_value;
 use std::alloc::Global;
 use vbits::Vec4;
 use vdesign::design::Variable;

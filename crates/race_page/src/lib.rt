@@ -17,4 +17,4 @@ mod style;
 mod table;
 mod time;
 
-pub use page::Page;
+pub use page::{Page, TopRaces};

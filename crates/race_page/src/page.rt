@@ -12,10 +12,22 @@ use crate::table::put_table;
 use crate::time::put_at;
 use basis::NoMemory;
 use cause::Cause;
-use race_groups::{Difference, Group};
-use race_text::{Findings, groups_texts, summary_text};
+use race_facts::Sources;
+use race_groups::{Difference, Group, Races};
 use run_pair::{Marked, Runs};
 use std::alloc::Global;
+use vmachine::Machine;
+
+/// What a page tells of a top module: the races of its machine, the files that they are of, how many there are in words, and what is told
+/// of each in words, in their order.
+#[derive(Clone, Copy)]
+pub struct TopRaces<'a> {
+    pub machine: &'a Machine,
+    pub sources: &'a Sources<'a>,
+    pub races: &'a Races,
+    pub summary: &'a [u8],
+    pub words: &'a [Vec<u8>],
+}
 
 /// A page on its way: what was told so far, and of how many races. A run is followed for at most so many steps.
 #[derive(Drop)]
@@ -169,26 +181,26 @@ fn put_words(page: &mut Vec<u8>, words: &[u8]) -> Result<(), NoMemory> {
 fn put_runs(
     alloc: Global,
     page: &mut Vec<u8>,
-    findings: &Findings<'_>,
+    machine: &Machine,
     files: &Files<'_>,
     group: &Group,
     runs: &Runs,
 ) -> Result<(), NoMemory> {
-    let variables = findings.machine.design().variables.len();
+    let variables = machine.design().variables.len();
     let signals = signals_of(alloc, group, runs, variables)?;
     put_at(
         page,
-        findings.machine,
+        machine,
         "<h3>The waveforms round the slot at ",
         runs.time,
         "</h3>\n",
     )?;
-    put_figure(alloc, page, runs, findings.machine, &signals)?;
-    put_table(alloc, page, runs, findings.machine, &signals.shown)?;
-    put_printed(page, findings.machine, &group.first, runs)?;
+    put_figure(alloc, page, runs, machine, &signals)?;
+    put_table(alloc, page, runs, machine, &signals.shown)?;
+    put_printed(page, machine, &group.first, runs)?;
     let subject = Subject {
         alloc,
-        machine: findings.machine,
+        machine,
         files,
         cause: &group.cause,
     };
@@ -209,10 +221,10 @@ impl Page {
     }
 
     // Both runs of the group.
-    fn runs_of(&self, findings: &Findings<'_>, group: &Group) -> Result<Runs, NoMemory> {
+    fn runs_of(&self, machine: &Machine, group: &Group) -> Result<Runs, NoMemory> {
         Runs::new(
             self.alloc,
-            findings.machine,
+            machine,
             &group.log,
             time_of(&group.first),
             marked_in(&group.cause, true),
@@ -224,7 +236,7 @@ impl Page {
     // A race: what is told of it in words, both statements, and both runs.
     fn put_race(
         &mut self,
-        findings: &Findings<'_>,
+        machine: &Machine,
         files: &Files<'_>,
         group: &Group,
         words: &[u8],
@@ -239,12 +251,12 @@ impl Page {
             ],
         )?;
         put_words(&mut self.text, words)?;
-        let runs = self.runs_of(findings, group)?;
+        let runs = self.runs_of(machine, group)?;
         if let Some(cause) = &group.cause {
-            put_heading(&mut self.text, findings.machine, slot_of(&runs))?;
+            put_heading(&mut self.text, machine, slot_of(&runs))?;
             put_sources(self.alloc, &mut self.text, files, cause)?;
         }
-        put_runs(self.alloc, &mut self.text, findings, files, group, &runs)?;
+        put_runs(self.alloc, &mut self.text, machine, files, group, &runs)?;
         put(
             &mut self.text,
             "<p><a href=\"#top\">All races</a></p>\n</section>\n",
@@ -252,35 +264,28 @@ impl Page {
     }
 
     // What stands before the races of a top module: its name, how many races there are, what wasn't looked at, and the list.
-    fn put_head(
-        &mut self,
-        findings: &Findings<'_>,
-        files: &Files<'_>,
-        words: &[Vec<u8>],
-    ) -> Result<(), NoMemory> {
-        let summary = summary_text(self.alloc, findings)?;
-        put_title(&mut self.text, &findings.machine.design().top)?;
+    fn put_head(&mut self, top: &TopRaces<'_>, files: &Files<'_>) -> Result<(), NoMemory> {
+        put_title(&mut self.text, &top.machine.design().top)?;
         put_all(
             &mut self.text,
-            &[Piece::Text(&summary), Piece::Mark("</p>\n")],
+            &[Piece::Text(top.summary), Piece::Mark("</p>\n")],
         )?;
-        if words.is_empty() {
+        if top.words.is_empty() {
             return Ok(());
         }
         put_all(&mut self.text, &[Piece::Mark(NAMES), Piece::Mark(LEGEND)])?;
         let first = self.races.saturating_add(1);
-        put_list(&mut self.text, first, words, &findings.races.groups, files)
+        put_list(&mut self.text, first, top.words, &top.races.groups, files)
     }
 
     /// What was found of a top module: a list of all races, and of each what is told of it in words, both statements in their files, the
     /// waveforms of both runs round the slot in which they differ, and the steps of both from where they part. E901 is the only refusal.
-    pub fn tell(&mut self, findings: &Findings<'_>) -> Result<(), NoMemory> {
-        let words = groups_texts(self.alloc, findings)?;
-        let files = Files::new(self.alloc, findings.sources)?;
-        self.put_head(findings, &files, &words)?;
-        for (place, group) in findings.races.groups.iter().enumerate() {
-            if let Some(words) = words.get(place) {
-                self.put_race(findings, &files, group, words)?;
+    pub fn tell(&mut self, top: &TopRaces<'_>) -> Result<(), NoMemory> {
+        let files = Files::new(self.alloc, top.sources)?;
+        self.put_head(top, &files)?;
+        for (place, group) in top.races.groups.iter().enumerate() {
+            if let Some(words) = top.words.get(place) {
+                self.put_race(top.machine, &files, group, words)?;
             }
         }
         Ok(())

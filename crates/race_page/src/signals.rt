@@ -1,7 +1,8 @@
 // Which variables are shown of a race.
 
 use basis::NoMemory;
-use cause::{Cause, Thing};
+use cause::Cause;
+use footprints::Thing;
 use race_groups::{Difference, Group};
 use run_pair::Runs;
 use std::alloc::Global;

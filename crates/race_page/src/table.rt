@@ -3,7 +3,7 @@
 use crate::html::{Piece, put, put_all};
 use crate::time::put_at;
 use basis::NoMemory;
-use race_text::put_value;
+use race_words::put_value;
 use run_pair::{Runs, Waves};
 use std::alloc::Global;
 use vdesign::design::Variable;

@@ -2,7 +2,7 @@
 
 use crate::html::put;
 use basis::NoMemory;
-use race_text::put_time;
+use race_facts::put_time;
 use vmachine::Machine;
 
 /// The time, between these marks.

@@ -1,109 +1,17 @@
 // One JSON document for programs (docs/FORMATS.md, "Races as JSON").
 
-use crate::connection::port_of;
-use crate::difference::Subject;
-use crate::facts::Facts;
-use crate::json_side::{first_difference, next_difference};
-use crate::members::{Items, Members};
-use crate::pieces::put_cut;
-use crate::place::Sources;
-use crate::statements::{SOURCE, verb};
 use crate::summary::{Findings, matched_at};
-use crate::time::put_precision;
-use crate::waivers::Waiver;
 use basis::NoMemory;
-use cause::{Blamed, Cause, Thing};
+use cause::Cause;
 use explore::{RankedReason, RankedStatus};
+use race_facts::difference::Subject;
+use race_facts::facts::Facts;
+use race_facts::json_side::{first_difference, next_difference};
+use race_facts::json_statement::{place_of, precision_of, statement_of};
+use race_words::members::{Items, Members, document};
+use race_words::waivers::Waiver;
 use serde_json::Value;
 use std::alloc::Global;
-use vdesign::design::Design;
-use vmachine::Machine;
-
-// Which port of which instance it connects, if it is a port connection.
-fn put_connected(members: &mut Members, design: &Design, sources: &Sources<'_>, action: usize) {
-    if let Some(port) = port_of(design, sources, action) {
-        members.text("instance", port.instance);
-        members.text("port", port.name);
-    }
-}
-
-// What the source says, cut where it is long.
-fn cut_source(alloc: Global, source: &[u8]) -> Result<Vec<u8>, NoMemory> {
-    let mut cut = Vec::new(alloc);
-    put_cut(&mut cut, source.trim_ascii_end(), SOURCE)?;
-    Ok(cut)
-}
-
-// Where the statement of an action stands, and what it says, if that is known.
-fn place_of(alloc: Global, design: &Design, sources: &Sources<'_>, action: usize) -> Members {
-    let mut members = Members::new(alloc);
-    if let Some(place) = sources.place(action) {
-        members.text("file", sources.name(place.file).as_bytes());
-        members.number("line", place.line as u64);
-        members.number("column", (place.column as u64).saturating_add(1));
-        members.made_text("source", cut_source(alloc, sources.source(place)));
-        put_connected(&mut members, design, sources, action);
-    }
-    members
-}
-
-// What the visit does to one thing. An event has no name.
-fn effect_on(
-    alloc: Global,
-    design: &Design,
-    blamed: &Blamed,
-    thing: Thing,
-) -> Result<Value, NoMemory> {
-    let mut members = Members::new(alloc);
-    members.text("verb", verb(design, blamed, thing));
-    if let Thing::Variable(number) = thing {
-        if let Some(variable) = design.variables.get(number as usize) {
-            members.text("name", &variable.name);
-        }
-    }
-    members.whole()
-}
-
-// Whether the thing stands among the first so many.
-fn is_among_first(things: &[Thing], count: usize, thing: &Thing) -> bool {
-    match things.get(..count) {
-        None => false,
-        Some(front) => front.contains(thing),
-    }
-}
-
-// What the visit does to each thing that both touch.
-fn deeds(
-    alloc: Global,
-    design: &Design,
-    blamed: &Blamed,
-    things: &[Thing],
-) -> Result<Value, NoMemory> {
-    let mut list = Items::new(alloc);
-    for (place, thing) in things.iter().enumerate() {
-        if !is_among_first(things, place, thing) {
-            list.try_value(effect_on(alloc, design, blamed, *thing));
-        }
-    }
-    list.whole()
-}
-
-/// One of the two statements, as JSON.
-pub fn statement_of(
-    alloc: Global,
-    design: &Design,
-    sources: &Sources<'_>,
-    blamed: &Blamed,
-    things: &[Thing],
-) -> Result<Value, NoMemory> {
-    let mut statement = place_of(alloc, design, sources, blamed.statement);
-    if blamed.statement != blamed.place {
-        let connection = place_of(alloc, design, sources, blamed.place);
-        statement.try_value("connection", connection.whole());
-    }
-    statement.try_value("does", deeds(alloc, design, blamed, things));
-    statement.whole()
-}
 
 // The two statements, in the order of the parent's run, and when they race; or the one that ends the run.
 fn put_cause(alloc: Global, members: &mut Members, subject: Subject<'_>, cause: &Cause) {
@@ -216,13 +124,6 @@ fn put_seen(members: &mut Members, findings: &Findings<'_>) {
     members.number("ignored", races.ignored);
 }
 
-/// The precision of times.
-pub fn precision_of(alloc: Global, machine: &Machine) -> Result<Vec<u8>, NoMemory> {
-    let mut text = Vec::new(alloc);
-    put_precision(&mut text, machine)?;
-    Ok(text)
-}
-
 /// What was found of a top module.
 pub fn top_of(alloc: Global, findings: &Findings<'_>) -> Result<Value, NoMemory> {
     let mut members = Members::new(alloc);
@@ -249,13 +150,6 @@ fn waivers_of(alloc: Global, waivers: &[Waiver<'_>], matched: &[u64]) -> Result<
         list.try_value(waiver_of(alloc, waiver, matched_at(matched, place)));
     }
     list.whole()
-}
-
-/// The value as a text, its members a line each, with a line feed at its end.
-pub fn document(alloc: Global, value: &Value) -> Result<Vec<u8>, NoMemory> {
-    let mut text = value.to_vec_pretty(alloc)?;
-    text.push(b'\n')?;
-    Ok(text)
 }
 
 /// What was found of each top module, and what waivers matched in all of them, as one JSON document.

@@ -1,17 +1,16 @@
 // A SARIF 2.1.0 log, for code hosts (docs/FORMATS.md, "Races as SARIF").
 
-use crate::difference::{Subject, put_difference, rows_of};
-use crate::facts::Facts;
-use crate::json::document;
-use crate::members::{Items, Members};
-use crate::pieces::{Piece, put, put_all};
 use crate::sarif_place::{Locations, fingerprint, location_of_end, locations_of, put_deeds};
 use crate::summary::{Findings, matched_at, put_matched, put_seen, put_top};
-use crate::time::put_time;
-use crate::waivers::Waiver;
 use basis::NoMemory;
 use cause::Cause;
 use explore::RankedStatus;
+use race_facts::difference::{Subject, put_difference, rows_of};
+use race_facts::facts::Facts;
+use race_facts::time::put_time;
+use race_words::members::{Items, Members, document};
+use race_words::pieces::{Piece, put, put_all};
+use race_words::waivers::Waiver;
 use serde_json::Value;
 use std::alloc::Global;
 

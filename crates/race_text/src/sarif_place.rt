@@ -1,12 +1,12 @@
 // Where statements stand, as SARIF has it: files by their URIs, columns by code points.
 
-use crate::difference::Subject;
-use crate::members::{Items, Members};
-use crate::pieces::{Piece, put, put_all};
 use crate::sarif::message;
-use crate::statements::{SOURCE, put_verbs};
 use basis::NoMemory;
 use cause::{Blamed, Cause};
+use race_facts::difference::Subject;
+use race_facts::statements::{SOURCE, put_verbs};
+use race_words::members::{Items, Members};
+use race_words::pieces::{Piece, put, put_all};
 use serde_json::Value;
 use std::alloc::Global;
 use vsrc::Place;

@@ -1,15 +1,15 @@
 // The last lines: how many races there are, what wasn't looked at, and what waivers matched.
 
-use crate::difference::Subject;
-use crate::facts::Facts;
-use crate::pieces::{Piece, put, put_all, put_count};
-use crate::place::Sources;
-use crate::time::put_time;
 use crate::waived::Waived;
-use crate::waivers::Waiver;
 use basis::NoMemory;
 use explore::{RankedReason, RankedStatus};
+use race_facts::difference::Subject;
+use race_facts::facts::Facts;
+use race_facts::place::Sources;
+use race_facts::time::put_time;
 use race_groups::{Group, Races};
+use race_words::pieces::{Piece, put, put_all, put_count};
+use race_words::waivers::Waiver;
 use vmachine::Machine;
 
 /// How many of the differences that follow are named, unless all are.

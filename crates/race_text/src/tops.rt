@@ -1,14 +1,14 @@
 // What is told of top modules, one after another, in one format.
 
 use crate::json::{json_of, top_of};
-use crate::members::Items;
-use crate::pieces::put;
 use crate::sarif::{push_results, push_unmatched, push_unseen, sarif_of};
 use crate::summary::{Findings, matched_at, put_top, put_waivers};
 use crate::waived::Waived;
-use crate::waivers::Waiver;
 use crate::whole::put_races;
 use basis::NoMemory;
+use race_words::members::Items;
+use race_words::pieces::put;
+use race_words::waivers::Waiver;
 use std::alloc::Global;
 
 /// How races are written.

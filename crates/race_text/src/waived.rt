@@ -1,12 +1,12 @@
 // Which causes are waived, and what each waiver matched.
 
-use crate::apart::apart_of;
-use crate::place::Sources;
-use crate::waivers::{LinePlace, Waiver, WaiverScope};
 use basis::NoMemory;
 use cause::{Blamed, Cause};
 use explore::FoundMark;
+use race_facts::apart::apart_of;
+use race_facts::place::Sources;
 use race_groups::{Difference, Group};
+use race_words::waivers::{LinePlace, Waiver, WaiverScope};
 use std::alloc::Global;
 use vdesign::design::Design;
 use vmachine::{Machine, MachineState};

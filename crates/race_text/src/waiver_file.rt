@@ -1,14 +1,14 @@
 // Waivers of what was found, as a file that `--waive` reads.
 
-use crate::apart::apart_of;
-use crate::difference::name_of;
-use crate::pieces::{Piece, put, put_all};
-use crate::place::Sources;
 use crate::summary::Findings;
 use basis::NoMemory;
 use cause::{Blamed, Cause};
 use explore::FoundMark;
+use race_facts::apart::apart_of;
+use race_facts::difference::name_of;
+use race_facts::place::Sources;
 use race_groups::{Difference, Group};
+use race_words::pieces::{Piece, put, put_all};
 use std::alloc::Global;
 use vmachine::{Machine, MachineState};
 

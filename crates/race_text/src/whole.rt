@@ -1,18 +1,18 @@
 // The text of the races of a top module.
 
-use crate::apart::Foremost;
 use crate::command::behind_log;
-use crate::difference::{
+use crate::summary::{Findings, NAMED, SearchSummary, put_summary};
+use basis::NoMemory;
+use race_facts::apart::Foremost;
+use race_facts::difference::{
     Row, Subject, cause_words, end_in, name_of, put_difference, put_name, put_sides, rows_of,
 };
-use crate::facts::Facts;
-use crate::pieces::{Piece, put, put_all};
-use crate::statements::{put_ending, put_statements};
-use crate::summary::{Findings, NAMED, SearchSummary, put_summary};
-use crate::time::put_time;
-use crate::waivers::Waiver;
-use basis::NoMemory;
+use race_facts::facts::Facts;
+use race_facts::statements::{put_ending, put_statements};
+use race_facts::time::put_time;
 use race_groups::{Difference, Group, Name};
+use race_words::pieces::{Piece, put, put_all};
+use race_words::waivers::Waiver;
 use std::alloc::Global;
 use vdesign::design::Design;
 use vmachine::Machine;

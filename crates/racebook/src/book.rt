@@ -11,9 +11,9 @@ use crate::slot::{put_line_race, put_races};
 use crate::slot_state::{SlotState, printing_of, states_of_findings};
 use basis::NoMemory;
 use explore::Findings;
+use plain_steps::run_law;
 use std::alloc::Global;
 use vmachine::{Machine, MachineState, machine_law};
-use vmodel::run_law;
 
 // Where the slot that begins here ends.
 fn slot_end(slot_states: &[SlotState], start: usize) -> usize

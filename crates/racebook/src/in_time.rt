@@ -10,10 +10,10 @@ ghost use Rattle.racebook.specs.Races.{AreRacesInOrder, AreValuesInOrder, EachRa
 use crate::slots::ClosedSlots;
 use crate::timed_findings::TimedFindings;
 use explore::{Watcher, explore_ranked};
+use plain_steps::run_law;
 use statebook::Limits;
 use std::alloc::Global;
 use vmachine::{Machine, machine_law};
-use vmodel::run_law;
 
 /// Explores the machine's runs by time, and keeps of each slot what a report tells: its races and the states in which runs end.
 /// All else is forgotten as the slot is closed, so that the memory it takes doesn't grow with the length of the runs.

@@ -6,10 +6,15 @@ use std::marker::Model;
 
 /// The lines that the slot printed, and the log of a run in which it did. A clause sees the pair of the lines and the members
 /// of the log.
-#[derive(Drop)]
 pub struct Side {
     pub lines: Bag,
     pub log: Log,
+}
+
+impl Drop for Side {
+    fn drop(self) {
+        let Side { lines: _, log: _ } = self;
+    }
 }
 
 impl Model for Side {
@@ -22,10 +27,15 @@ impl Model for Side {
 
 /// A race of lines: two or more sides of the slot of one time, whose lines differ. A clause sees it as the record `LineRace`
 /// of specs/LineRaces.antt.
-#[derive(Drop)]
 pub struct LineRace {
     pub time: u64,
     pub sides: Vec<Side>,
+}
+
+impl Drop for LineRace {
+    fn drop(self) {
+        let LineRace { time: _, sides: _ } = self;
+    }
 }
 
 impl Model for LineRace {

@@ -6,10 +6,15 @@ use vbits::Vec4;
 
 /// A value that a variable has at the end of a slot, and the log of a run that shows it. A clause sees the pair of the
 /// value and the members of the log.
-#[derive(Drop)]
 pub struct Witness {
     pub value: Vec4,
     pub log: Log,
+}
+
+impl Drop for Witness {
+    fn drop(self) {
+        let Witness { value: _, log: _ } = self;
+    }
 }
 
 impl Model for Witness {
@@ -23,11 +28,20 @@ impl Model for Witness {
 
 /// A race: two or more values of one variable at the end of the slot of one time. The variable goes by its number in the
 /// design. A clause sees it as the record `Race` of specs/Races.antt.
-#[derive(Drop)]
 pub struct Race {
     pub time: u64,
     pub variable: usize,
     pub values: Vec<Witness>,
+}
+
+impl Drop for Race {
+    fn drop(self) {
+        let Race {
+            time: _,
+            variable: _,
+            values: _,
+        } = self;
+    }
 }
 
 impl Model for Race {

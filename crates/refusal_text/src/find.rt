@@ -10,9 +10,9 @@ use crate::words::{Words, is_one_of};
 use crate::{bounds, declarations, expressions, keywords, statements, system_verilog};
 use basis::NoMemory;
 use std::alloc::Global;
-use vast::words::without_backslash;
 use vlex::{TokenKind, Tokens};
 use vsrc::Place;
+use vwords::words::without_backslash;
 
 /// What is told of a word: a construct that the profile leaves out, a mistake, or else the number of a fault.
 #[derive(Clone, Copy, PartialEq, Eq)]

@@ -1,8 +1,8 @@
 // The words of a text, looked at from one of them.
 
-use vast::words::without_backslash;
 use vlex::{TokenKind, Tokens};
 use vsrc::Place;
+use vwords::words::without_backslash;
 
 /// A word of a text, and those before and after it. Beyond both ends of the text there are empty words.
 #[derive(Clone, Copy)]
@@ -31,7 +31,7 @@ pub(crate) fn is_one_of(word: &[u8], words: &[&'static str]) -> bool {
 
 /// Whether the word is a name, and no keyword.
 pub(crate) fn is_name(word: &[u8]) -> bool {
-    vast::words::is_name(word)
+    vwords::words::is_name(word)
 }
 
 // The word at the place, empty beyond the end.

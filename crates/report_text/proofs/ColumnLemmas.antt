@@ -11,8 +11,8 @@ use Rattle.basis.proofs.Bools.{and_left, and_right, and_both}
 use Rattle.report_text.specs.Report.{Column}
 use Rattle.report_text.specs.ReportText.{column_line, column_lines}
 use Rattle.report_text.specs.WellFormed.{IsColumn}
-use Rattle.vast.specs.Words.{is_printable}
-use Rattle.vast.specs.Names.{is_path}
+use Rattle.vwords.specs.Words.{is_printable}
+use Rattle.vwords.specs.Names.{is_path}
 use Rattle.report_text.specs.Inner.Fronts.{lacks}
 use Rattle.report_text.specs.Inner.Columns.{IsColumnTaken, Differ}
 use Rattle.report_text.specs.Inner.Names.{is_among}

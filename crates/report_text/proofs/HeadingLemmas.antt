@@ -12,7 +12,7 @@ use Rattle.report_text.specs.declared.report.Version.TheVariants.{One, Two, Thre
 use Rattle.report_text.specs.ReportText.{version_number, departures_word}
 use Rattle.report_text.specs.declared.report.Outcome.{Outcome}
 use Rattle.report_text.specs.WellFormed.{HasViews}
-use Rattle.vast.specs.Words.{is_printable, are_printable}
+use Rattle.vwords.specs.Words.{is_printable, are_printable}
 use Rattle.report_text.specs.Inner.Fronts.{lacks}
 use Rattle.report_text.specs.Inner.Headings.{AreViewsIn, IsNumberLine, label_line_before}
 use Rattle.report_text.proofs.LineLemmas.{lacks_by}

@@ -7,7 +7,7 @@ use Rattle.std.specs.declared.cmp.Ordering.TheVariants.{Less}
 use Rattle.basis.specs.declared.memory.OrMemory.{OrMemory}
 use Rattle.basis.specs.Reasons.{Because}
 use Rattle.sched_core.specs.Logs.{IsLog}
-use Rattle.vast.specs.Names.{has_letters_of_name, is_path}
+use Rattle.vwords.specs.Names.{has_letters_of_name, is_path}
 use Rattle.sched_core.specs.declared.setting.Grain.TheVariants.{Process}
 use Rattle.sched_core.specs.declared.setting.Departures.{Departures}
 use Rattle.sched_core.specs.declared.setting.Departures.TheVariants.{Taking, Holding}

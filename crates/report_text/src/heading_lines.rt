@@ -7,7 +7,7 @@ ghost use Rattle.report_text.specs.Inner.Headings.{grain_before, heading_before,
 ghost use Rattle.report_text.specs.Inner.Headings as headings;
 ghost use Rattle.report_text.specs.Inner.Places.{HasSpelled, HasTaken, Stands, TakesEach, TakesSpelled, Took};
 ghost use Rattle.report_text.specs.ReportText as spelled;
-ghost use Rattle.vast.specs.Names.{has_letters_of_name};
+ghost use Rattle.vwords.specs.Names.{has_letters_of_name};
 ghost use Rattle.report_text.specs.declared.report.Version as versions;
 ghost use Rattle.report_text.specs.declared.report.Version.TheVariants.{One, Two, Three};
 ghost use Rattle.report_text.specs.declared.report.Outcome as outcomes;

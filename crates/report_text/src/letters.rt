@@ -3,10 +3,10 @@
 ghost use Rattle.std.specs.Prelude.{◌≡◌, ◌↔◌, IsTrue};
 ghost use Rattle.std.specs.List.{list_all};
 ghost use Rattle.report_text.specs.WellFormed as well_formed;
-ghost use Rattle.vast.specs.Names as names;
+ghost use Rattle.vwords.specs.Names as names;
 
 use std::cmp::Ordering;
-use vast::words::are_printable;
+use vwords::words::are_printable;
 
 /// Whether the word may be a name by its letters; a reserved word counts as well.
 pub fn is_name(word: &[u8]) -> bool

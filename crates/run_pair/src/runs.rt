@@ -10,20 +10,39 @@ use std::alloc::Global;
 use vmachine::Machine;
 
 /// What a page shows of a run: its slots round a time, and its steps from one on.
-#[derive(Drop)]
 pub struct Seen {
     pub log: Log,
     pub waves: Waves,
     pub steps: Steps,
 }
 
+impl Drop for Seen {
+    fn drop(self) {
+        let Seen {
+            log: _,
+            waves: _,
+            steps: _,
+        } = self;
+    }
+}
+
 /// What a page shows of both runs: of each its slots and steps, the times of the slots, and the one in which they differ first.
-#[derive(Drop)]
 pub struct Runs {
     pub parent: Seen,
     pub departed: Seen,
     pub columns: Vec<u64>,
     pub time: u64,
+}
+
+impl Drop for Runs {
+    fn drop(self) {
+        let Runs {
+            parent: _,
+            departed: _,
+            columns: _,
+            time: _,
+        } = self;
+    }
 }
 
 // Puts the member last, as far as the log stays one.

@@ -23,7 +23,6 @@ pub struct Change {
 
 /// A step: how many before it aren't listed, its number, the place of its action if it has one, whether it is one of the two that race,
 /// the first variables that it changes, and how many more they are.
-#[derive(Drop)]
 pub struct Row {
     pub gap: u64,
     pub number: u32,
@@ -31,6 +30,19 @@ pub struct Row {
     pub races: bool,
     pub changes: Vec<Change>,
     pub more: u64,
+}
+
+impl Drop for Row {
+    fn drop(self) {
+        let Row {
+            gap: _,
+            number: _,
+            action: _,
+            races: _,
+            changes: _,
+            more: _,
+        } = self;
+    }
 }
 
 /// Which steps are looked at: from this one on and before the other one, and among them those that race.
@@ -43,12 +55,22 @@ pub struct Looked {
 }
 
 /// Steps that are listed, in order, and the time of their slot, if it has an end.
-#[derive(Drop)]
 pub struct Steps {
     pub rows: Vec<Row>,
     pub time: Option<u64>,
     looked: Looked,
     gap: u64,
+}
+
+impl Drop for Steps {
+    fn drop(self) {
+        let Steps {
+            rows: _,
+            time: _,
+            looked: _,
+            gap: _,
+        } = self;
+    }
 }
 
 impl Looked {

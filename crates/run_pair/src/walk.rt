@@ -1,11 +1,11 @@
 // A run under a log, step by step.
 
 use basis::NoMemory;
+use plain_steps::State;
 use sched_core::{Log, Member};
 use vbits::Vec4;
 use vdesign::design::Design;
 use vmachine::Machine;
-use vmodel::State;
 use vmodel::choice::Choice;
 
 /// A run under a log, behind some of its steps.

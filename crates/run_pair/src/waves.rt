@@ -18,12 +18,22 @@ pub(crate) struct Slot {
 }
 
 /// The last slots before a time, that of the time, and the first ones after it, in order.
-#[derive(Drop)]
 pub struct Waves {
     pub(crate) slots: Vec<Slot>,
     around: u64,
     after: usize,
     ended: bool,
+}
+
+impl Drop for Waves {
+    fn drop(self) {
+        let Waves {
+            slots: _,
+            around: _,
+            after: _,
+            ended: _,
+        } = self;
+    }
 }
 
 impl Waves {

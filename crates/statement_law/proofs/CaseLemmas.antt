@@ -3,7 +3,7 @@ use Rattle.std.proofs.Common.{◌≡◌, ℕ, Bool, true, false, if◌then◌els
 use Rattle.vbits.specs.Vectors.{Vector}
 use Rattle.vast.specs.NumberedExpressions as text
 use Rattle.vast.specs.NumberedStatements.{StatementTree, BranchTree, BranchTrees, labelled, default, no_branch, first_branch}
-use Rattle.vast.specs.declared.statement.CaseKind.{CaseKind}
+use Rattle.vwords.specs.declared.cases.CaseKind.{CaseKind}
 use Rattle.vdesign.specs.Expressions.{ExpressionTree}
 use Rattle.vdesign.specs.declared.action.Action.{Action}
 use Rattle.vdesign.specs.declared.action.Branch.{Branch}
@@ -13,7 +13,7 @@ use Rattle.vvalue.specs.Cases.{matches, widest, places_at, places_of_case}
 use Rattle.velab_expr.specs.Scopes.{Scope}
 use Rattle.velab_expr.specs.Resolved.{no_parts, lower_expression}
 use Rattle.velab_process.specs.Statements.{Table, LoweredBranches, lower_labels, lower_statement, lower_branch, lower_branches}
-use Rattle.vmodel.specs.declared.process.Frame.{Frame}
+use Rattle.vmodel.specs.declared.frame.Frame.{Frame}
 use Rattle.vmodel.specs.Step.{frames}
 use Rattle.statement_law.specs.TreeSteps.{Pending, before, Choice, labels_of, choices_of_branch, choices_of, default_of_branch, default_before, widest_of, first_match, chosen_before}
 use Rattle.statement_law.specs.Standing.{IsFront, Stands, StandAt}

@@ -2,7 +2,7 @@
 use Rattle.std.proofs.Common.{◌≡◌, ℕ, Bool, true, false, List, [], ◌∷◌, length, slice_get, Option, None, Some, Ok, refl}
 use Rattle.vast.specs.NumberedExpressions as text
 use Rattle.vast.specs.NumberedStatements.{TargetTree, DelayTree, TaskTree, print, idle, dump_file, dump_vars, dump, end_run, StatementTree, empty, block, assign, nonblocking, trigger, if_true, if_else, case_of, while_true, repeat_times, forever, for_loop, wait_for, delay, event, task, BranchTrees}
-use Rattle.vast.specs.declared.statement.CaseKind.{CaseKind}
+use Rattle.vwords.specs.declared.cases.CaseKind.{CaseKind}
 use Rattle.vdesign.specs.Expressions.{ExpressionTree}
 use Rattle.vdesign.specs.declared.action.Action.{Action}
 use Rattle.vdesign.specs.declared.action.Action.TheVariants.{Trigger, Test, Case, While, Repeat, Forever, Delay, EventControl, Wait, Print, DumpVars, NoOperation}

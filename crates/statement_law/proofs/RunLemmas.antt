@@ -18,7 +18,7 @@ use Rattle.sched_core.specs.Rules.{choice_at}
 use Rattle.vmodel.specs.declared.choice.Choice.{Choice}
 use Rattle.vmodel.specs.declared.choice.Choice.TheVariants.{Run, Update, Advance}
 use Rattle.sched_core.specs.declared.end.Cause.{Cause}
-use Rattle.vmodel.specs.declared.process.Frame.{Frame}
+use Rattle.vmodel.specs.declared.frame.Frame.{Frame}
 use Rattle.vmodel.specs.Choices.{choices}
 use Rattle.vmodel.specs.State.{Process, State}
 use Rattle.vmodel.specs.Waking.{rank, last_bit, hears, any_hears, has_come, wakes_at, wakes, awake}

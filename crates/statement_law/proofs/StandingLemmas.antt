@@ -11,8 +11,8 @@ use Rattle.velab_expr.specs.FirstWords.{first_in}
 use Rattle.velab_expr.specs.Scopes.{Scope}
 use Rattle.velab_expr.specs.Resolved.{lower_expression}
 use Rattle.velab_process.specs.Statements.{Table, Lowered, with_places_before, lowered_action, lower_assignment, lower_statement, lower_all}
-use Rattle.vmodel.specs.declared.process.Frame.{Frame}
-use Rattle.vmodel.specs.declared.process.Frame.TheVariants.{Executing}
+use Rattle.vmodel.specs.declared.frame.Frame.{Frame}
+use Rattle.vmodel.specs.declared.frame.Frame.TheVariants.{Executing}
 use Rattle.vmodel.specs.Step.{frames}
 use Rattle.statement_law.specs.TreeSteps.{takes_step, Pending, executing, in_order, before, before_all}
 use Rattle.statement_law.specs.Standing.{IsFront, Stands, StandAt}

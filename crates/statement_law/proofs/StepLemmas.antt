@@ -20,8 +20,8 @@ use Rattle.velab_process.specs.Prints.{when_of}
 use Rattle.velab_process.specs.Waits.{any_of, names_in}
 use Rattle.velab_process.specs.Statements.{dump_action}
 use Rattle.vmodel.specs.Value.{assigned_parts}
-use Rattle.vmodel.specs.declared.process.Frame.{Frame}
-use Rattle.vmodel.specs.declared.process.Frame.TheVariants.{Executing, Repeating, Writing}
+use Rattle.vmodel.specs.declared.frame.Frame.{Frame}
+use Rattle.vmodel.specs.declared.frame.Frame.TheVariants.{Executing, Repeating, Writing}
 use Rattle.vmodel.specs.Step.{StepResult, frames, turns_left, execute, execute_at, place_of, pieces_of}
 use Rattle.statement_law.specs.TreeSteps.{takes_step, Pending, executing, repeating, writing, driving, waits, line, monitor, selection, nothing, TreeStep, before, turns_before, amount_of, terms_of, line_for, execute_pending, calls, prints, dumps_by, IsStep, GoesOn}
 use Rattle.statement_law.specs.Standing.{Stands, StandsAt, StandAt, terms_in, selection_in}

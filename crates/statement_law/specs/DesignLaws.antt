@@ -2,7 +2,7 @@
 -- `statement_law` proves it.
 use Rattle.std.specs.Prelude.{◌≡◌, ℕ, zero, suc, if◌then◌else◌, List, [], ◌∷◌, ◌++◌, Option, None, Some, Result, slice_get}
 use Rattle.basis.specs.declared.timescale.Timescale.{Timescale}
-use Rattle.vast.specs.Words.{Text}
+use Rattle.vwords.specs.Words.{Text}
 use Rattle.vast.specs.NumberedWords.{Word}
 use Rattle.vast.specs.NumberedExpressions as text
 use Rattle.vast.specs.NumberedStatements.{TargetTree, whole}

@@ -9,7 +9,7 @@ use Rattle.velab_expr.specs.Scopes.{Scope}
 use Rattle.velab_expr.specs.Symbols.{behind_item}
 use Rattle.velab_process.specs.Statements.{Table}
 use Rattle.velab_process.specs.Processes.{ProcessTree, Processes, process_trees_by, lower_items}
-use Rattle.vmodel.specs.declared.process.Frame.{Frame}
+use Rattle.vmodel.specs.declared.frame.Frame.{Frame}
 use Rattle.vmodel.specs.Step.{StepResult, frames, execute_at, place_of}
 use Rattle.statement_law.specs.TreeSteps.{Pending, TreeStep, before, begin_of, GoesOn}
 use Rattle.statement_law.specs.Standing.{IsFront, Stands, StandAt, tree_effect_of}

@@ -3,7 +3,7 @@ use Rattle.std.specs.Prelude.{Bool, true, false, ◌≡◌, ℕ, zero, suc, ◌-
 use Rattle.vbits.specs.Vectors.{Vector}
 use Rattle.vast.specs.NumberedExpressions as text
 use Rattle.vast.specs.NumberedStatements.{TargetTree, DelayTree, EventTree, ArgumentTree, TaskTree, print, idle, dump_file, dump_vars, dump, end_run, StatementTree, StatementTrees, empty, block, assign, nonblocking, trigger, if_true, if_else, case_of, while_true, repeat_times, forever, for_loop, wait_for, delay, event, task, no_statement, first_statement, BranchTree, BranchTrees, labelled, default, no_branch, first_branch}
-use Rattle.vast.specs.declared.statement.CaseKind.{CaseKind}
+use Rattle.vwords.specs.declared.cases.CaseKind.{CaseKind}
 use Rattle.vast.specs.declared.statement.Dumping.{Dumping}
 use Rattle.vast.specs.declared.statement.Dumping.TheVariants as dumps
 use Rattle.vast.specs.declared.statement.Printing.{Printing}

@@ -1,12 +1,12 @@
 // Which processes are active (IEEE 1364-2005, 11.3).
 
 use basis::NoMemory;
+use plain_steps::{State, opening};
 use sched_core::setting::Grain;
 use std::alloc::Global;
 use vdesign::design::Design;
 use vmachine::Machine;
 use vmodel::choice::Choice;
-use vmodel::{State, opening};
 
 /// A run in grain statement, where all active processes are among the choices. It takes what another run of the design takes, and so its
 /// processes are active as theirs are, in whichever grain.

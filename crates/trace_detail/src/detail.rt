@@ -6,12 +6,12 @@ use crate::reads::Reads;
 use crate::taken::{action_of, choice_at};
 use basis::NoMemory;
 use itoa::Buffer;
+use plain_steps::State;
 use sched_core::Member;
 use std::alloc::Global;
 use trace_text::Origins;
 use vdesign::design::Design;
 use vmachine::Machine;
-use vmodel::State;
 use vmodel::choice::Choice;
 use vmodel::effect::Effect;
 

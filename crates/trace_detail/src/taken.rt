@@ -1,7 +1,7 @@
 // What a step of a run takes.
 
+use plain_steps::State;
 use sched_core::Member;
-use vmodel::State;
 use vmodel::choice::Choice;
 
 /// The choice of a step under a log of these members.

@@ -6,7 +6,7 @@ use Rattle.std.specs.Prelude.{codes}
 use Rattle.vsrc.specs.declared.expanded.Place.{Place}
 use Rattle.vmodel.specs.declared.part.Part.{Part}
 use Rattle.vmodel.specs.declared.part.Part.TheVariants.{Whole, Bits}
-use Rattle.vmodel.specs.declared.process.Frame.{Frame}
+use Rattle.vmodel.specs.declared.frame.Frame.{Frame}
 use Rattle.vmodel.specs.Inner.{variable_of as number_of, first_place}
 use Rattle.trace_text.specs.Traces.{variable_of, known_place, first_origin, word_and_number, numbers_text}
 

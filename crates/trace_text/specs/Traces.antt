@@ -20,7 +20,7 @@ use Rattle.vmodel.specs.declared.effect.Shown.{Shown}
 use Rattle.vmodel.specs.declared.effect.Shown.TheVariants.{Commands, Prints, Watches}
 use Rattle.vmodel.specs.declared.part.Part.{Part}
 use Rattle.vmodel.specs.declared.part.Part.TheVariants.{Whole, Bits}
-use Rattle.vmodel.specs.declared.process.Frame.{Frame}
+use Rattle.vmodel.specs.declared.frame.Frame.{Frame}
 use Rattle.vmodel.specs.State.{State}
 use Rattle.vmodel.specs.Choices.{choices}
 use Rattle.vmodel.specs.Holding.{held_by_choice}

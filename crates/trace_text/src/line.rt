@@ -11,6 +11,7 @@ ghost use Rattle.trace_text.specs.Traces as spec;
 
 use basis::NoMemory;
 use itoa::Buffer;
+use plain_steps::State;
 use sched_core::end::{Cause, End};
 use std::alloc::Global;
 use std::marker::Model;
@@ -18,7 +19,6 @@ use value_text::put_binary;
 use vbits::Vec4;
 use vdesign::design::Design;
 use vdesign::dump::DumpCommand;
-use vmodel::State;
 use vmodel::choice::Choice;
 use vmodel::effect::{Disposition, Effect, Post, Shown};
 use vmodel::part::{Kept, Part, Parts};
@@ -27,9 +27,14 @@ use vmodel::values::value_after;
 use vsrc::Place;
 
 /// Where the statement of each action of a design begins, by its place in the design's table. A clause sees the list.
-#[derive(Drop)]
 pub struct Origins {
     places: Vec<Option<Place>>,
+}
+
+impl Drop for Origins {
+    fn drop(self) {
+        let Origins { places: _ } = self;
+    }
 }
 
 impl Model for Origins {

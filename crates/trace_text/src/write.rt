@@ -9,11 +9,11 @@ ghost use Rattle.vmodel.specs.RunProgress.{IsOnItsWay};
 use crate::line::{Origins, end_line, opening_line, step};
 use basis::OrMemory;
 use byte_sinks::{Metered, WriteFault, put};
+use plain_steps::State;
 use sched_core::{Log, next_choice};
 use std::alloc::Global;
 use std::io::Write;
 use vmachine::Machine;
-use vmodel::State;
 
 // Writes the lines of the steps, from the opening state on, up to the run's end. The state is then that of the end.
 fn write_steps<W: Write>(

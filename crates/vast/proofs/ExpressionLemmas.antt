@@ -4,7 +4,7 @@ use Rattle.vast.specs.Expressions.{ExpressionTree, number, name, time, bit, part
 use Rattle.vast.specs.ExpressionTrees.{tree_of, trees_of}
 use Rattle.vast.specs.TokenTexts.{token_text}
 use Rattle.vast.specs.declared.expression.Expression.{Expression, Concatenation, Replication}
-use Rattle.vast.specs.Words.{Text}
+use Rattle.vwords.specs.Words.{Text}
 use Rattle.vast.proofs.ToldTrees.{told_concatenation, told_replication}
 
 pub depth_positive : (tree : ExpressionTree) → 0 < depth tree

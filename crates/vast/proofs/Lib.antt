@@ -1,9 +1,6 @@
 pub mod ToldTrees
 pub mod ExpressionLemmas
 pub mod WholeTreeLemmas
-pub mod FitLemmas
-pub mod StatementFitLemmas
-pub mod SpellLemmas
 pub mod LeafRows
 pub mod MappedLists
 pub mod ExpressionWordLemmas
@@ -14,4 +11,3 @@ pub mod RefilledExpressions
 pub mod RefilledStatements
 pub mod RefilledModules
 pub mod NumberedTextLemmas
-pub mod NameLemmas

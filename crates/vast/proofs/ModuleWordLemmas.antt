@@ -1,5 +1,5 @@
 -- The words of modules of the program, as their trees tell them.
-use Rattle.std.proofs.Common.{◌≡◌, List, [], ◌∷◌, map, refl}
+use Rattle.std.proofs.Common.{◌≡◌, List, ◌∷◌, map, refl}
 use Rattle.std.specs.List.{flat_map}
 use Rattle.vast.specs.Modules.{typed, input, output, by_order, variables, directed, parameters, declaration, events, assignments, initial, always, instances}
 use Rattle.vast.specs.Modules as written

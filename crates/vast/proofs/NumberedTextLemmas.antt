@@ -1,7 +1,7 @@
 -- Each text of the program has its tree with numbered words, and it is the only one.
 use Rattle.std.proofs.Common.{◌≡◌, ℕ, suc, ◌+◌, Bool, true, false, if◌then◌else◌, List, [], ◌∷◌, ◌++◌, map, refl, sym, ap, ◌∙◌, arith}
 use Rattle.std.specs.List.{slice_get}
-use Rattle.vast.specs.Words.{Text, is_leaf, without_backslash}
+use Rattle.vwords.specs.Words.{Text, is_leaf, without_backslash}
 use Rattle.vast.specs.TokenTexts.{letters, token_text, leaves_from}
 use Rattle.vast.specs.Leaves.{text_leaves}
 use Rattle.vast.specs.Modules.{SourceTree, SourceOf}

@@ -6,10 +6,10 @@ use Rattle.vast.specs.ExpressionTrees.{boxed_tree}
 use Rattle.vast.specs.StatementTrees.{statement_tree, statement_trees, branch_trees}
 use Rattle.vast.specs.TokenTexts.{token_text}
 use Rattle.vast.specs.declared.expression.Expression.{Expression}
-use Rattle.vast.specs.declared.statement.CaseKind.{CaseKind}
+use Rattle.vwords.specs.declared.cases.CaseKind.{CaseKind}
 use Rattle.vast.specs.declared.statement.Branch.{Branch}
 use Rattle.vast.specs.declared.statement.Statement.{Statement, Block, Case}
-use Rattle.vast.specs.Words.{Text}
+use Rattle.vwords.specs.Words.{Text}
 use Rattle.vast.proofs.ToldTrees.{told_block, told_case}
 use Rattle.std.specs.Option.{option_map}
 use Rattle.vast.specs.declared.token.Token.{Token}

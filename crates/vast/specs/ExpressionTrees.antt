@@ -4,7 +4,7 @@ use Rattle.vast.specs.Expressions.{ExpressionOf, ExpressionsOf, ExpressionTree, 
 use Rattle.vast.specs.TokenTexts.{token_text}
 use Rattle.vast.specs.declared.token.Token.{Token}
 use Rattle.vast.specs.declared.expression.Expression.{Expression, Number, Name, Time, Bit', Part', Parentheses', Concatenation', Replication', Conversion', Unary', Binary', Conditional', Row_of-Expression, end_of-Expression, more_of-Expression}
-use Rattle.vast.specs.Words.{Text}
+use Rattle.vwords.specs.Words.{Text}
 
 -- with words that are told so
 module _ {W : Type 0} (told : Token → W) where

@@ -1,11 +1,11 @@
 -- *trusted*: Expressions of the whole profile (IEEE 1364-2005, clause 5 and A.8, narrowed to this product's profile): their trees, the
 -- words that these spell, how deep they nest, and which stand as the grammar lets them.
 use Rattle.std.specs.Prelude.{◌≡◌, ℕ, ◌+◌, max, nat_le, nat_lt, Bool, true, false, IsTrue, ◌&&◌, if◌then◌else◌, List, [], ◌∷◌, ◌++◌, codes}
-use Rattle.vast.specs.Words.{Text, is_name, is_number, is_time}
-use Rattle.vast.specs.declared.expression.UnaryOperator.{UnaryOperator}
-use Rattle.vast.specs.declared.expression.UnaryOperator.TheVariants as unary
-use Rattle.vast.specs.declared.expression.BinaryOperator.{BinaryOperator}
-use Rattle.vast.specs.declared.expression.BinaryOperator.TheVariants as binary
+use Rattle.vwords.specs.Words.{Text, is_name, is_number, is_time}
+use Rattle.vwords.specs.declared.operators.UnaryOperator.{UnaryOperator}
+use Rattle.vwords.specs.declared.operators.UnaryOperator.TheVariants as unary
+use Rattle.vwords.specs.declared.operators.BinaryOperator.{BinaryOperator}
+use Rattle.vwords.specs.declared.operators.BinaryOperator.TheVariants as binary
 
 mutual
   -- of words that are told so

@@ -1,7 +1,4 @@
 -- *internal*: The list of these files; the first word of each says whether it has to be believed.
-pub mod Words
-pub mod Spellings
-pub mod Names
 pub mod Expressions
 pub mod ExpressionTrees
 pub mod Statements
@@ -9,8 +6,6 @@ pub mod Modules
 pub mod TokenTexts
 pub mod StatementTrees
 pub mod ModuleTrees
-pub mod Within
-pub mod Inner
 pub mod Leaves
 pub mod NumberedWords
 pub mod NumberedExpressions

@@ -2,7 +2,7 @@
 -- trees, the words that these spell, and which stand as the grammar lets them. A source text is its modules.
 use Rattle.std.specs.Prelude.{◌≡◌, IsTrue, ℕ, nat_le, Bool, true, false, not, ◌&&◌, if◌then◌else◌, List, [], ◌∷◌, ◌++◌, Option, Some, None, is_some, length, codes, flat_map}
 use Rattle.std.specs.List.{list_all}
-use Rattle.vast.specs.Words.{Text, is_name}
+use Rattle.vwords.specs.Words.{Text, is_name}
 use Rattle.vast.specs.Expressions.{ExpressionOf, ExpressionTree, spell_expression, depth, fits_expression}
 use Rattle.vast.specs.Statements.{TargetOf, spell_target, target_depth, fits_target, StatementOf, StatementTree, with_commas, in_parentheses, spell_statement, statement_depth, fits_statement}
 use Rattle.vast.specs.declared.module.NetKind.{NetKind}

@@ -1,6 +1,6 @@
 -- *product rule*: The tree of a text with the number of each word that it keeps.
 use Rattle.std.specs.Prelude.{◌≡◌, List}
-use Rattle.vast.specs.Words.{Text, without_backslash}
+use Rattle.vwords.specs.Words.{Text, without_backslash}
 use Rattle.vast.specs.Modules.{SourceTree, SourceOf}
 use Rattle.vast.specs.NumberedWords.{Word, words_from}
 use Rattle.vast.specs.TreeWords.{source_with, source_words}

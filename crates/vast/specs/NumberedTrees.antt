@@ -1,6 +1,6 @@
 -- *internal*: Trees of the program, their words with their numbers.
 use Rattle.std.specs.Prelude.{List, Box}
-use Rattle.vast.specs.Words.{Text}
+use Rattle.vwords.specs.Words.{Text}
 use Rattle.vast.specs.NumberedWords.{Word, word_of}
 use Rattle.vast.specs.declared.expression.Expression.{Expression, Row_of-Expression}
 use Rattle.vast.specs.declared.statement.Target.{Target, Row_of-Target}

@@ -2,7 +2,7 @@
 -- among the words of the text, by which a fault says its place; and its path. A string that a task prints has the path of the scope that the
 -- task stands in (17.1.1.6), once its instance is known (`placed_items` of `vmodules`). In all other words, and before that, it is empty.
 use Rattle.std.specs.Prelude.{ℕ, suc, if◌then◌else◌, List, [], ◌∷◌}
-use Rattle.vast.specs.Words.{Text, is_leaf, without_backslash}
+use Rattle.vwords.specs.Words.{Text, is_leaf, without_backslash}
 use Rattle.vast.specs.TokenTexts.{token_text}
 use Rattle.vast.specs.declared.token.Token.{Token}
 

@@ -1,6 +1,6 @@
 -- *internal*: The tree that a statement of the program stands for.
 use Rattle.std.specs.Prelude.{List, [], ◌∷◌, map, option_map}
-use Rattle.vast.specs.Words.{Text}
+use Rattle.vwords.specs.Words.{Text}
 use Rattle.vast.specs.TokenTexts.{token_text}
 use Rattle.vast.specs.declared.token.Token.{Token}
 use Rattle.vast.specs.ExpressionTrees.{boxed_told, expressions_told}

@@ -2,10 +2,10 @@
 -- words that these spell, how deep they nest, and which stand as the grammar lets them.
 use Rattle.std.specs.Prelude.{ℕ, ◌+◌, max, nat_le, Bool, true, false, ◌&&◌, not, if◌then◌else◌, List, [], ◌∷◌, ◌++◌, Option, Some, None, length, codes, flat_map}
 use Rattle.std.specs.List.{list_all}
-use Rattle.vast.specs.Words.{Text, is_name, is_number, is_string}
+use Rattle.vwords.specs.Words.{Text, is_name, is_number, is_string}
 use Rattle.vast.specs.Expressions.{ExpressionOf, ExpressionsOf, ExpressionTree, spell_expression, spell_parts, depth, greatest_depth, fits_expression, fits_parts, is_some_part}
-use Rattle.vast.specs.declared.statement.CaseKind.{CaseKind}
-use Rattle.vast.specs.declared.statement.CaseKind.TheVariants as case_kind
+use Rattle.vwords.specs.declared.cases.CaseKind.{CaseKind}
+use Rattle.vwords.specs.declared.cases.CaseKind.TheVariants as case_kind
 use Rattle.vast.specs.declared.statement.Edge.{Edge}
 use Rattle.vast.specs.declared.statement.Edge.TheVariants as edge
 use Rattle.vast.specs.declared.statement.Base.{Base}

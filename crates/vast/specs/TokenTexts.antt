@@ -1,7 +1,7 @@
 -- *internal*: The letters of a token that a tree keeps by its number, among the words of the text.
 use Rattle.std.specs.Prelude.{ℕ, suc, if◌then◌else◌, List, [], ◌∷◌, ◌++◌, Option, Some, None, map, slice_get}
 use Rattle.std.specs.Borrow.{Bor}
-use Rattle.vast.specs.Words.{Text, is_leaf}
+use Rattle.vwords.specs.Words.{Text, is_leaf}
 use Rattle.vast.specs.declared.token.Token.{Token}
 
 abbrev pub letters : Option Text → Text

@@ -1,12 +1,9 @@
 // Operators: how they are written, and how tightly they bind (IEEE 1364-2005, 5.1).
 
 ghost use Rattle.std.specs.Prelude.{◌≡◌, ◌<◌};
-ghost use Rattle.std.specs.Prelude.{List};
-ghost use Rattle.vast.specs.Words.{Text};
-ghost use Rattle.vast.specs.Expressions.{unary_word as unary_text, binary_word as binary_text, rank as rank_of_operator, rank_of as rank_of_tree};
-ghost use Rattle.vast.specs.ExpressionTrees.{tree_of};
+ghost use Rattle.vast.specs.Expressions.{unary_word as unary_text, binary_word as binary_text, rank as rank_of_operator};
 
-use crate::expression::{BinaryOperator, Expression, UnaryOperator};
+use vwords::operators::{BinaryOperator, UnaryOperator};
 
 /// The rank of what no binary operator makes, above that of every binary operator.
 pub const UNARY_RANK: u32 = 11;
@@ -92,16 +89,5 @@ pub fn rank(operator: BinaryOperator) -> u32
         BinaryOperator::Or => 3,
         BinaryOperator::LogicalAnd => 2,
         BinaryOperator::LogicalOr => 1,
-    }
-}
-
-/// How tightly an expression holds together: a conditional loosest, what no binary operator makes tightest (5.1.2).
-pub fn rank_of(expression: &Expression) -> u32
-    ensures { (words : List Text) → result ≡ rank_of_tree (tree_of words expression.now) }
-{
-    match expression {
-        Expression::Conditional { .. } => 0,
-        Expression::Binary { operator, .. } => rank(*operator),
-        _ => UNARY_RANK,
     }
 }

@@ -2,17 +2,7 @@
 
 use crate::expression::Expression;
 use crate::token::Token;
-
-/// How a case compares its value with a label (9.5).
-#[derive(Clone, Copy, PartialEq, Eq)]
-pub enum CaseKind {
-    /// `case`: letter by letter, x and z too
-    Exact,
-    /// `casez`: z counts as any letter (9.5.1)
-    Z,
-    /// `casex`: x and z count as any letter (9.5.1)
-    X,
-}
+use vwords::cases::CaseKind;
 
 /// Which change of a name an event control waits for (9.7.2).
 #[derive(Clone, Copy, PartialEq, Eq)]

@@ -12,7 +12,6 @@ use vbits::Vec4;
 use vvalue::environment::Environment;
 
 /// The code of a design. A clause sees it as the record `Code` of specs/Code.antt.
-#[derive(Drop)]
 pub struct Code {
     /// By place.
     pub links: Vec<Link>,
@@ -26,6 +25,20 @@ pub struct Code {
     pub by_event: Vec<Listeners>,
     /// Whether every place leads to what stands behind it in the design, and everybody who may wait is listed.
     pub whole: bool,
+}
+
+impl Drop for Code {
+    fn drop(self) {
+        let Code {
+            links: _,
+            counters: _,
+            operands: _,
+            begins: _,
+            by_variable: _,
+            by_event: _,
+            whole: _,
+        } = self;
+    }
 }
 
 impl Model for Code {

@@ -22,9 +22,14 @@ pub struct Listener {
 }
 
 /// Those who listen to one variable, or to one event.
-#[derive(Drop)]
 pub struct Listeners {
     list: Vec<Listener>,
+}
+
+impl Drop for Listeners {
+    fn drop(self) {
+        let Listeners { list: _ } = self;
+    }
 }
 
 impl Model for Listeners {

@@ -3,7 +3,7 @@ use Rattle.std.proofs.Common.{◌≡◌, ◌≢◌, ℕ, ◌+◌, ◌-◌, ◌<�
 use Rattle.std.proofs.lemmas.Bool.Decides.{nat_tests}
 use Rattle.basis.proofs.Bools.{and_left, and_right}
 use Rattle.vbits.specs.Vectors.{Vector}
-use Rattle.vast.specs.declared.statement.CaseKind.{CaseKind}
+use Rattle.vwords.specs.declared.cases.CaseKind.{CaseKind}
 use Rattle.vcode.specs.declared.point.Point.{Point}
 use Rattle.vcode.specs.declared.point.Point.TheVariants.{Ended, Executing, Repeating}
 use Rattle.vcode.specs.declared.link.Link.{Link}
@@ -18,8 +18,8 @@ use Rattle.vdesign.specs.declared.print.When.TheVariants.{Now, AtSlotEnd, AtChan
 use Rattle.vvalue.specs.declared.size_and_sign.SizeAndSign.{SizeAndSign}
 use Rattle.vvalue.specs.Value.{Environment, holds, value_of}
 use Rattle.vvalue.specs.Cases.{matches, case_size_and_sign, places_at, places_of_case, turns_of}
-use Rattle.vmodel.specs.declared.process.Frame.{Frame}
-use Rattle.vmodel.specs.declared.process.Frame.TheVariants as frame
+use Rattle.vmodel.specs.declared.frame.Frame.{Frame}
+use Rattle.vmodel.specs.declared.frame.Frame.TheVariants as frame
 use Rattle.vmodel.specs.declared.effect.Disposition.TheVariants.{Waiting}
 use Rattle.vmodel.specs.Step.{StepResult, frames, turns_left, place_of, execute, execute_turn, resume, execute_at}
 use Rattle.vmodel.specs.Effects.{no_effect}

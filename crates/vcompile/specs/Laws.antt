@@ -14,8 +14,8 @@ use Rattle.vdesign.specs.declared.action.Action.{Action}
 use Rattle.vdesign.specs.declared.action.Action.TheVariants.{Repeat}
 use Rattle.vvalue.specs.Value.{Environment}
 use Rattle.vvalue.specs.Cases.{turns_of}
-use Rattle.vmodel.specs.declared.process.Frame.{Frame}
-use Rattle.vmodel.specs.declared.process.Frame.TheVariants.{Executing, Repeating, Writing}
+use Rattle.vmodel.specs.declared.frame.Frame.{Frame}
+use Rattle.vmodel.specs.declared.frame.Frame.TheVariants.{Executing, Repeating, Writing}
 use Rattle.vmodel.specs.declared.effect.Disposition.TheVariants.{Waiting}
 use Rattle.vmodel.specs.Step.{frames, place_of, execute_at}
 use Rattle.vmodel.specs.Operands.{operand}

@@ -1,7 +1,7 @@
 -- *trusted*: Expressions of a design (IEEE 1364-2005, clause 5): trees whose leaves are constants, variables by number, and `$time`.
 use Rattle.std.specs.Prelude.{ℕ, Bool}
-use Rattle.vast.specs.declared.expression.UnaryOperator.{UnaryOperator}
-use Rattle.vast.specs.declared.expression.BinaryOperator.{BinaryOperator}
+use Rattle.vwords.specs.declared.operators.UnaryOperator.{UnaryOperator}
+use Rattle.vwords.specs.declared.operators.BinaryOperator.{BinaryOperator}
 use Rattle.vbits.specs.Vectors.{Vector}
 use Rattle.vdesign.specs.declared.expression.Bounds.{Bounds}
 use Rattle.vdesign.specs.declared.expression.Constant.{Constant}

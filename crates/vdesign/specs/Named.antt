@@ -1,6 +1,6 @@
 -- *internal*: What is said of the names of a design (IEEE 1364-2005, 3.7, 12.5; docs/FORMATS.md, "Reports").
 use Rattle.std.specs.Prelude.{◌≡◌, ◌≢◌, ℕ, ◌<◌, true, slice_get, Some}
-use Rattle.vast.specs.Names.{has_letters_of_name, is_path}
+use Rattle.vwords.specs.Names.{has_letters_of_name, is_path}
 use Rattle.vdesign.specs.Design.{Variable, Design}
 
 -- what a report says of names: the top's is a name, each variable's is such names joined by dots, and no two are the same

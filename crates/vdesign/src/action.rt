@@ -6,7 +6,7 @@ use crate::dump::{DumpSwitch, Selection};
 use crate::expression::{Bounds, Expression};
 use crate::print::{Pieces, When};
 use std::marker::Model;
-use vast::statement::CaseKind;
+use vwords::cases::CaseKind;
 
 /// Places of a design's table of actions, in the order in which they are come to.
 #[derive(Drop)]

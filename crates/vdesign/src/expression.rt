@@ -5,8 +5,8 @@ ghost use Rattle.vdesign.specs.Expressions.{ExpressionTree};
 ghost use Rattle.vdesign.specs.Nodes.{nodes_of};
 
 use std::marker::Model;
-use vast::expression::{BinaryOperator, UnaryOperator};
 use vbits::Vec4;
+use vwords::operators::{BinaryOperator, UnaryOperator};
 
 /// A number of the text (3.5.1).
 #[derive(Clone, Copy)]

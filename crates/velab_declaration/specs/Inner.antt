@@ -3,7 +3,7 @@ use Rattle.std.specs.Prelude.{not, List, ◌++◌, Vec, map, Option, Some, optio
 use Rattle.std.specs.Borrow.{Bor}
 use Rattle.std.specs.List.{filter, flat_map}
 use Rattle.vdesign.specs.Design as design
-use Rattle.vast.specs.Words.{Text}
+use Rattle.vwords.specs.Words.{Text}
 use Rattle.vast.specs.NumberedWords.{Word, word_of}
 use Rattle.vast.specs.NumberedModules.{ParameterType, DeclaredTree, ItemTree, declaration}
 use Rattle.vmodules.specs.Names.{is_declared, again_behind}

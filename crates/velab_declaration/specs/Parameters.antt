@@ -1,7 +1,7 @@
 -- *trusted*: The parameters of an instance (IEEE 1364-2005, 4.10, 12.2), and what its names stand for.
 use Rattle.std.specs.Prelude.{ℕ, ◌+◌, nat_lt, not, Bool, true, false, if◌then◌else◌, List, [], ◌∷◌, ◌++◌, length, Option, None, Some, Result, Ok}
 use Rattle.std.specs.List.{flat_map}
-use Rattle.vast.specs.Words.{Text}
+use Rattle.vwords.specs.Words.{Text}
 use Rattle.vast.specs.NumberedExpressions as text
 use Rattle.vbits.specs.Vectors.{Vector, with_sign}
 use Rattle.vmodules.specs.Connected.{NamedConnection, value_for}

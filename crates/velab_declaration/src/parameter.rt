@@ -2,7 +2,7 @@
 
 ghost use Rattle.std.specs.Prelude.{◌≡◌, ◌<◌, ◌≤◌, ◌^◌, List, None, map, length, IfOk};
 ghost use Rattle.std.specs.Option.{option_or};
-ghost use Rattle.vast.specs.Words.{Text};
+ghost use Rattle.vwords.specs.Words.{Text};
 ghost use Rattle.vast.specs.NumberedWords.{word_of};
 ghost use Rattle.vast.specs.NumberedTrees.{head_parameter, item_tree, parameter_type, setting_tree};
 ghost use Rattle.vexpr_parse.specs.Texts.{words_of};

@@ -6,7 +6,7 @@ ghost use Rattle.velab_declaration.specs.Variables as variables;
 ghost use Rattle.velab_declaration.specs.Variables.{lower_kind, lower_declaration, lower_variables, lower_ports, variable_in};
 ghost use Rattle.vmodules.specs.Inner.{own_in, port_form, second_form, type_for};
 ghost use Rattle.vmodules.specs.Ports.{own_items};
-ghost use Rattle.vast.specs.Words.{Text};
+ghost use Rattle.vwords.specs.Words.{Text};
 ghost use Rattle.velab_expr.specs.Answers.{Gives, Makes, behind};
 ghost use Rattle.velab_expr.specs.Inner.{symbols_in, IsNarrow};
 ghost use Rattle.velab_expr.specs.Ranges.{lower_bounds};

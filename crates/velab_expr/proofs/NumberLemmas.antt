@@ -14,7 +14,7 @@ use Rattle.vbits.specs.Numbers.{digits}
 use Rattle.vbits.specs.Planes.{letters_of}
 use Rattle.vbits.specs.Vectors.{Vector, filled, of_number, select, concat, with_sign}
 use Rattle.vbits.proofs.LettersOf.{digits-letters_of, letters_of-low, zero_low}
-use Rattle.vast.specs.Words.{Text}
+use Rattle.vwords.specs.Words.{Text}
 use Rattle.vlex.specs.Bytes.{is_underscore, is_x_digit, is_z_digit}
 use Rattle.vlex.specs.Forms.{with_digit, spelled_number, skip_blanks}
 use Rattle.velab_expr.specs.Literals.{digit_letters, spelled_letters, filling_letters, lettered_value, decimal_value, digit_value, is_marked, without_mark, digits_behind, first_byte, size_of, based_value, spreads_by, based_constant, plain_constant}

@@ -1,6 +1,6 @@
 -- A concatenation of targets is the trees of its targets. A bit or a part that is refused.
 use Rattle.std.proofs.Common.{◌≡◌, ℕ, Bool, List, [], ◌∷◌, Result, Ok, Err, Vec, Global, sym, ap, ◌∙◌}
-use Rattle.vast.specs.Words.{Text}
+use Rattle.vwords.specs.Words.{Text}
 use Rattle.vast.specs.NumberedExpressions.{ExpressionTree}
 use Rattle.vast.specs.NumberedStatements.{bit, part, joined}
 use Rattle.vast.specs.NumberedTrees.{target_tree, target_trees}

@@ -4,7 +4,7 @@ use Rattle.std.specs.List.{flat_map}
 use Rattle.vbits.specs.declared.bit4.Bit4.{Bit4}
 use Rattle.vdesign.specs.declared.expression.Bounds.{Bounds}
 use Rattle.vlex.specs.Bytes.{is_underscore}
-use Rattle.vast.specs.Words.{Text}
+use Rattle.vwords.specs.Words.{Text}
 use Rattle.vast.specs.declared.statement.Path.{Path}
 use Rattle.vdesign.specs.declared.dump.Chosen.{Chosen}
 use Rattle.velab_expr.specs.Selections.{chosen_of, dotted_path}

@@ -8,7 +8,7 @@ use Rattle.vbits.specs.Numbers.{digits}
 use Rattle.vbits.specs.Vectors.{Vector, filled, of_number, with_sign}
 use Rattle.vlex.specs.Bytes.{is_apostrophe, is_underscore, is_x_digit, is_z_digit}
 use Rattle.vlex.specs.Forms.{leading_digits, spelled_number, skip_blanks}
-use Rattle.vast.specs.Words.{Text}
+use Rattle.vwords.specs.Words.{Text}
 use Rattle.vdesign.specs.declared.expression.Constant.{Constant}
 
 -- 0 to 9, and a to f in either case

@@ -5,7 +5,7 @@ ghost use Rattle.vbits.specs.Letters as letters;
 ghost use Rattle.velab_expr.specs.Constants as spec;
 ghost use Rattle.velab_expr.specs.Rules as rules;
 ghost use Rattle.vast.specs.NumberedTrees.{tree_of};
-ghost use Rattle.vast.specs.Words.{Text};
+ghost use Rattle.vwords.specs.Words.{Text};
 ghost use Rattle.velab_expr.specs.FirstWords.{first_in};
 ghost use Rattle.velab_expr.specs.Answers.{Gives};
 

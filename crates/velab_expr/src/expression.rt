@@ -5,7 +5,7 @@ ghost use Rattle.basis.specs.Reasons.{IfFault};
 ghost use Rattle.vast.specs.NumberedTrees as text;
 ghost use Rattle.vast.specs.NumberedExpressions as written;
 ghost use Rattle.vast.specs.NumberedWords.{word_of};
-ghost use Rattle.vast.specs.Words.{Text};
+ghost use Rattle.vwords.specs.Words.{Text};
 ghost use Rattle.vdesign.specs.Expressions.{ExpressionTree};
 ghost use Rattle.vdesign.specs.Nodes.{nodes_of};
 ghost use Rattle.vexpr_parse.specs.Texts.{words_of};

@@ -2,7 +2,7 @@
 
 ghost use Rattle.std.specs.Prelude.{◌≡◌, List, map};
 ghost use Rattle.vast.specs.NumberedTrees as text;
-ghost use Rattle.vast.specs.Words.{Text};
+ghost use Rattle.vwords.specs.Words.{Text};
 ghost use Rattle.velab_expr.specs.FirstWords as spec;
 ghost use Rattle.velab_expr.specs.Rules.{number_in};
 

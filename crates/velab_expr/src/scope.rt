@@ -2,7 +2,7 @@
 
 ghost use Rattle.std.specs.Prelude.{◌≡◌, ◌≤◌, List, Some, None, IfOk, OnOk};
 ghost use Rattle.vast.specs.NumberedWords.{word_of};
-ghost use Rattle.vast.specs.Words.{Text};
+ghost use Rattle.vwords.specs.Words.{Text};
 ghost use Rattle.vexpr_parse.specs.Texts.{words_of};
 ghost use Rattle.velab_expr.specs.Answers.{Gives};
 ghost use Rattle.velab_expr.specs.Scopes as spec;

@@ -6,7 +6,7 @@ ghost use Rattle.vast.specs.NumberedTrees.{path_tree, selection_tree};
 ghost use Rattle.vast.specs.NumberedWords.{word_of};
 ghost use Rattle.vexpr_parse.specs.Texts.{words_of};
 ghost use Rattle.velab_expr.specs.Inner.{all_chosen};
-ghost use Rattle.vast.specs.Words.{Text as TextLetters};
+ghost use Rattle.vwords.specs.Words.{Text as TextLetters};
 ghost use Rattle.velab_expr.specs.Answers.{Gives};
 ghost use Rattle.velab_expr.specs.Rules.{number_in};
 ghost use Rattle.velab_expr.specs.Selections as spec;

@@ -1,6 +1,6 @@
 // How many names an item declares beside variables (IEEE 1364-2005, 4.10).
 ghost use Rattle.std.specs.Prelude.{◌≡◌, length, List};
-ghost use Rattle.vast.specs.Words.{Text};
+ghost use Rattle.vwords.specs.Words.{Text};
 ghost use Rattle.vast.specs.NumberedTrees.{item_tree};
 ghost use Rattle.velab_expr.specs.Symbols.{symbols_by};
 

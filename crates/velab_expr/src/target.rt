@@ -1,7 +1,7 @@
 // What assignments write to (IEEE 1364-2005, 5.1.14, 5.2.1, 6.2).
 
 ghost use Rattle.std.specs.Prelude.{◌≡◌, List, is_some};
-ghost use Rattle.vast.specs.Words.{Text};
+ghost use Rattle.vwords.specs.Words.{Text};
 ghost use Rattle.vast.specs.NumberedTrees.{tree_of as text_tree, trees_of as text_trees};
 ghost use Rattle.vast.specs.NumberedWords.{word_of};
 ghost use Rattle.vast.specs.NumberedTrees.{target_tree, target_trees};

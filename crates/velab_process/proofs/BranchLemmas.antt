@@ -3,11 +3,11 @@ use Rattle.std.proofs.Common.{◌≡◌, ℕ, List, [], ◌++◌, Vec, Global, R
 use Rattle.std.specs.Prelude.{Box}
 use Rattle.basis.specs.declared.memory.OrMemory.{OrMemory}
 use Rattle.basis.specs.declared.memory.OrMemory.TheVariants.{Fault, Memory}
-use Rattle.vast.specs.Words.{Text}
+use Rattle.vwords.specs.Words.{Text}
 use Rattle.vast.specs.NumberedTrees.{tree_of, statement_tree, branch_trees}
 use Rattle.vast.specs.NumberedStatements.{case_of}
 use Rattle.vast.specs.declared.expression.Expression.{Expression}
-use Rattle.vast.specs.declared.statement.CaseKind.{CaseKind}
+use Rattle.vwords.specs.declared.cases.CaseKind.{CaseKind}
 use Rattle.vast.specs.declared.statement.Branch.{Branch as WrittenBranch}
 use Rattle.vast.specs.declared.statement.Statement.{Statement, Case}
 use Rattle.vast.specs.NumberedWords.{word_of}

@@ -2,7 +2,7 @@
 use Rattle.std.specs.Prelude.{◌≡◌, ℕ, List, [], ◌∷◌, ◌++◌, Vec, map, Option, None, Result, Ok, Err, Bool, true, false}
 use Rattle.std.specs.List.{filter_map}
 use Rattle.basis.specs.declared.memory.OrMemory.{OrMemory}
-use Rattle.vast.specs.Words.{Text}
+use Rattle.vwords.specs.Words.{Text}
 use Rattle.vast.specs.NumberedWords.{Word, word_of}
 use Rattle.vast.specs.NumberedModules.{ItemTree, variables}
 use Rattle.vast.specs.NumberedTrees.{argument_tree, task_tree, statement_tree, statement_trees, branch_tree, branch_trees, declared_tree, net_assignment, item_tree, port_tree}

@@ -1,6 +1,6 @@
 -- *trusted*: Print tasks of the text, their names resolved and their formats read (IEEE 1364-2005, 17.1).
 use Rattle.std.specs.Prelude.{◌-◌, Bool, true, false, if◌then◌else◌, List, [], ◌∷◌, length, take, drop, codes, Result, Ok}
-use Rattle.vast.specs.Words.{Text}
+use Rattle.vwords.specs.Words.{Text}
 use Rattle.vast.specs.NumberedExpressions as text
 use Rattle.vast.specs.NumberedStatements.{ArgumentTree, quoted, printed, left_out}
 use Rattle.vast.specs.declared.statement.Base.{Base}

@@ -1,7 +1,7 @@
 // Port connections: each is a continuous assignment, into an instance or out of it (IEEE 1364-2005, 12.3.9.2).
 
 ghost use Rattle.std.specs.Prelude.{◌≡◌, [], ◌∷◌, None, Some, Ok, option_map, List, map, IfOk, OnOk};
-ghost use Rattle.vast.specs.Words.{Text};
+ghost use Rattle.vwords.specs.Words.{Text};
 ghost use Rattle.vast.specs.NumberedTrees.{tree_of as text_tree};
 ghost use Rattle.vast.specs.NumberedWords.{word_of};
 ghost use Rattle.vexpr_parse.specs.Texts.{words_of};

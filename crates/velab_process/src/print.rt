@@ -3,7 +3,7 @@
 ghost use Rattle.std.specs.Prelude.{◌≡◌, ◌≤◌, [], List, map, true};
 ghost use Rattle.vast.specs.NumberedTrees.{tree_of as text_tree};
 ghost use Rattle.vast.specs.NumberedTrees.{argument_tree};
-ghost use Rattle.vast.specs.Words.{Text};
+ghost use Rattle.vwords.specs.Words.{Text};
 ghost use Rattle.vexpr_parse.specs.Texts.{words_of};
 ghost use Rattle.format_text.specs.Pieces.{TakesArgument};
 ghost use Rattle.velab_expr.specs.Answers.{Gives};

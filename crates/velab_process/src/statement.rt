@@ -9,7 +9,7 @@ ghost use Rattle.velab_process.specs.Processes as processes;
 ghost use Rattle.velab_process.specs.Processes.{procedural, continuous, with_begins_before, lower_processes};
 ghost use Rattle.vmodules.specs.Placed.{inside};
 ghost use Rattle.velab_process.specs.Inner.{Begins, statement_at, statements_at, branch_at, branches_at, task_at, arguments_at, lower_loop as spec_loop, is_control_flow, starts_in, values_in, drives_in, processes_of_item, processes_of, values_of};
-ghost use Rattle.vast.specs.Words.{Text};
+ghost use Rattle.vwords.specs.Words.{Text};
 ghost use Rattle.vast.specs.NumberedTrees.{tree_of as text_tree, trees_of};
 ghost use Rattle.vast.specs.NumberedTrees.{target_tree, delay_tree, event_tree};
 ghost use Rattle.vast.specs.NumberedWords.{word_of};
@@ -26,7 +26,7 @@ use std::marker::Model;
 use vast::expression::Expression as Value;
 use vast::module::{DeclarationKind, Declared, ModuleItem, NetAssignment, NetKind, Port};
 use vast::statement::{
-    Argument, Branch, CaseKind, Delay, Dumping, Event, Printing, Statement, Target as Written, Task,
+    Argument, Branch, Delay, Dumping, Event, Printing, Statement, Target as Written, Task,
 };
 use vast::token::Token;
 use vdesign::action::{Action, Branch as Choice, Branches, Places, Targets, Terms};
@@ -40,6 +40,7 @@ use velab_expr::select::{levels_of, selection_of};
 use velab_expr::symbol::symbol_count;
 use velab_expr::target::{net_targets_of, targets_of};
 use vlex::Tokens;
+use vwords::cases::CaseKind;
 
 /// Actions in the order in which they are come to, and for each the number of a token, if it has one, by which a fault of it is told.
 #[derive(Drop)]

@@ -8,12 +8,12 @@ use Rattle.std.proofs.lemmas.List.{append-nil}
 use Rattle.std.proofs.lemmas.Bool.Decides.{nat_tests}
 use Rattle.basis.proofs.Bools.{and_left, and_right, and_both, clash}
 use Rattle.basis.specs.Letters.{begins_name, is_in_name}
-use Rattle.vast.specs.Words.{Text, is_name, is_number, is_time, is_reserved, is_escaped_name, are_printable}
+use Rattle.vwords.specs.Words.{Text, is_name, is_number, is_time, is_reserved, is_escaped_name, are_printable}
 use Rattle.vast.specs.Expressions.{ExpressionTree, number, name, time, bit, part, parentheses, concatenation, replication, conversion, apply, combine, conditional, ExpressionTrees, none, first, spell_expression, spell_parts, spell_more_parts, fits_expression, fits_parts, depth, greatest_depth, rank, rank_of, unary_rank, unary_word, binary_word, conversion_word}
-use Rattle.vast.specs.declared.expression.UnaryOperator.{UnaryOperator}
-use Rattle.vast.specs.declared.expression.UnaryOperator.TheVariants as unary
-use Rattle.vast.specs.declared.expression.BinaryOperator.{BinaryOperator}
-use Rattle.vast.specs.declared.expression.BinaryOperator.TheVariants as binary
+use Rattle.vwords.specs.declared.operators.UnaryOperator.{UnaryOperator}
+use Rattle.vwords.specs.declared.operators.UnaryOperator.TheVariants as unary
+use Rattle.vwords.specs.declared.operators.BinaryOperator.{BinaryOperator}
+use Rattle.vwords.specs.declared.operators.BinaryOperator.TheVariants as binary
 use Rattle.vast.proofs.ExpressionLemmas.{depth_positive}
 use Rattle.vexpr_parse.specs.declared.beginning.Beginning.{Beginning}
 use Rattle.vexpr_parse.specs.declared.beginning.Beginning.TheVariants as start

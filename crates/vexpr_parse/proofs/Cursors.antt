@@ -5,7 +5,7 @@ use Rattle.std.proofs.Math.ListN.{drop_of_length-le}
 use Rattle.basis.proofs.Lists.{passed}
 use Rattle.vlex.specs.Lexed.{Piece}
 use Rattle.vlex.specs.Tokenized.{Tokenized, pieces_of, text_at}
-use Rattle.vast.specs.Words.{Text, is_leaf}
+use Rattle.vwords.specs.Words.{Text, is_leaf}
 use Rattle.vast.specs.TokenTexts.{letters, leaf_at, leaves_from}
 use Rattle.vast.specs.declared.token.Token.{Token}
 use Rattle.vexpr_parse.specs.Texts.{words_of}

@@ -3,9 +3,9 @@ use Rattle.std.proofs.Common.{◌≡◌, ℕ, zero, suc, ◌+◌, ◌<◌, ◌�
 use Rattle.std.specs.Str.{bytes_eq}
 use Rattle.std.proofs.lemmas.Bool.{cases_Bool}
 use Rattle.std.proofs.lemmas.Bool.Decides.{nat_tests}
-use Rattle.vast.specs.Words.{Text}
+use Rattle.vwords.specs.Words.{Text}
 use Rattle.vast.specs.Expressions.{ExpressionTree, name, bit, part, parentheses, concatenation, replication, conversion, apply, combine, conditional, depth, rank, unary_rank}
-use Rattle.vast.specs.declared.expression.BinaryOperator.{BinaryOperator}
+use Rattle.vwords.specs.declared.operators.BinaryOperator.{BinaryOperator}
 use Rattle.vexpr_parse.specs.declared.beginning.Beginning.{Beginning}
 use Rattle.vexpr_parse.specs.declared.beginning.Beginning.TheVariants as start
 use Rattle.vexpr_parse.specs.declared.beginning.Round.TheVariants as round

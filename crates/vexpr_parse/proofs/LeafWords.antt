@@ -1,12 +1,12 @@
 -- Which of the words that begin or join an expression a tree keeps: names, numbers and `$time`, and no others.
 use Rattle.std.proofs.Common.{◌≡◌, ℕ, true, false, if◌then◌else◌, List, [], ◌∷◌, ◌||◌, Option, None, Some, codes, drop, take, nat_le, ◌++◌, refl, sym, ap, subst, ◌∙◌}
 use Rattle.std.specs.Str.{bytes_eq}
-use Rattle.vast.specs.Words.{Text, is_name, is_number, is_string, is_time, is_leaf}
+use Rattle.vwords.specs.Words.{Text, is_name, is_number, is_string, is_time, is_leaf}
 use Rattle.vast.specs.Expressions.{unary_word, binary_word}
-use Rattle.vast.specs.declared.expression.UnaryOperator.{UnaryOperator}
-use Rattle.vast.specs.declared.expression.UnaryOperator.TheVariants as unary
-use Rattle.vast.specs.declared.expression.BinaryOperator.{BinaryOperator}
-use Rattle.vast.specs.declared.expression.BinaryOperator.TheVariants as binary
+use Rattle.vwords.specs.declared.operators.UnaryOperator.{UnaryOperator}
+use Rattle.vwords.specs.declared.operators.UnaryOperator.TheVariants as unary
+use Rattle.vwords.specs.declared.operators.BinaryOperator.{BinaryOperator}
+use Rattle.vwords.specs.declared.operators.BinaryOperator.TheVariants as binary
 use Rattle.vexpr_parse.specs.declared.beginning.Beginning.{Beginning}
 use Rattle.vexpr_parse.specs.declared.beginning.Beginning.TheVariants as start
 use Rattle.vexpr_parse.specs.declared.beginning.Round.{Round}

@@ -2,7 +2,7 @@
 use Rattle.std.proofs.Common.{◌≡◌, ℕ, zero, suc, ◌+◌, ◌<◌, ◌≤◌, ◌-◌, Bool, true, false, ◌&&◌, not, nat_le, List, [], ◌∷◌, ◌++◌, None, Result, Ok, Err, IfOk, length, refl, sym, ap, ◌∙◌, arith, subst, append_assoc, length-append, codes}
 use Rattle.std.proofs.lemmas.List.{append-nil, append_cancel_right}
 use Rattle.std.proofs.lemmas.Bool.Decides.{nat_tests}
-use Rattle.vast.specs.Words.{Text, reserved_words}
+use Rattle.vwords.specs.Words.{Text, reserved_words}
 use Rattle.vast.specs.Expressions.{ExpressionTree, name, unary_rank}
 use Rattle.basis.specs.declared.memory.OrMemory.{OrMemory}
 use Rattle.basis.specs.declared.memory.OrMemory.TheVariants.{Fault, Memory}

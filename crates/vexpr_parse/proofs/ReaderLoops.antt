@@ -3,7 +3,7 @@ use Rattle.std.proofs.Common.{◌≡◌, ℕ, zero, suc, ◌<◌, ◌≤◌, Boo
 use Rattle.std.specs.Str.{bytes_eq}
 use Rattle.std.proofs.lemmas.Bool.{cases_Bool}
 use Rattle.std.proofs.lemmas.List.{append-nil}
-use Rattle.vast.specs.Words.{Text}
+use Rattle.vwords.specs.Words.{Text}
 use Rattle.vexpr_parse.specs.Readers.{Answer, got, stop, Reader, front, and_then, Lead, goes, refused, lower, follow, by_word, room, past, choose, rounds, turns}
 use Rattle.vexpr_parse.specs.Lawful.{rest_of, Ends, IsWhole, Begins, GoesOn, Sees, Lawful, Rule}
 use Rattle.vexpr_parse.proofs.ReaderRules.{chosen, passed_over, text_same, front_same, stop_got, then_got, parts_of, got_left, keeps, Eats, sees_same, got_rule, IsLead, rule_lead, led_sees, led_eats}

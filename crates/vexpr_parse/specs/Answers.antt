@@ -5,8 +5,8 @@ use Rattle.std.specs.List.{flat_map}
 use Rattle.vast.specs.TokenTexts.{token_text, leaves_from}
 use Rattle.vast.specs.Leaves.{leaves_of}
 use Rattle.vast.specs.declared.token.Token.{Token}
-use Rattle.vast.specs.declared.expression.BinaryOperator.{BinaryOperator}
-use Rattle.vast.specs.Words.{Text, is_leaf}
+use Rattle.vwords.specs.declared.operators.BinaryOperator.{BinaryOperator}
+use Rattle.vwords.specs.Words.{Text, is_leaf}
 use Rattle.vast.specs.Expressions.{ExpressionTree, conditional, concatenation, replication, depth, greatest_depth, rank}
 use Rattle.vast.specs.ExpressionTrees.{tree_of, trees_of}
 use Rattle.vlex.specs.Tokenized.{Tokenized}

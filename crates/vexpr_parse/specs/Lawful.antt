@@ -1,6 +1,6 @@
 -- *internal*: What holds of each reader: one word of lookahead decides, and what was read goes on to something that can be read.
 use Rattle.std.specs.Prelude.{◌≡◌, ◌<◌, Bool, true, List, ◌++◌, Option, length}
-use Rattle.vast.specs.Words.{Text}
+use Rattle.vwords.specs.Words.{Text}
 use Rattle.vexpr_parse.specs.Readers.{Answer, got, stop, Reader, front}
 
 -- the words that an answer leaves, and the same answer that leaves others

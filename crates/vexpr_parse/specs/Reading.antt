@@ -2,9 +2,9 @@
 -- grammar read backwards is what `DerivesExpression` says of it.
 use Rattle.std.specs.Prelude.{ℕ, zero, suc, nat_le, if◌then◌else◌, List, [], ◌∷◌, ◌++◌, Option, Some, None, codes}
 use Rattle.std.specs.Str.{bytes_eq}
-use Rattle.vast.specs.Words.{Text}
+use Rattle.vwords.specs.Words.{Text}
 use Rattle.vast.specs.Expressions.{ExpressionTree, number, name, time, bit, part, parentheses, concatenation, replication, conversion, apply, combine, conditional, ExpressionTrees, none, first, depth, rank, unary_rank}
-use Rattle.vast.specs.declared.expression.BinaryOperator.{BinaryOperator}
+use Rattle.vwords.specs.declared.operators.BinaryOperator.{BinaryOperator}
 use Rattle.vexpr_parse.specs.declared.beginning.Beginning.{Beginning}
 use Rattle.vexpr_parse.specs.declared.beginning.Beginning.TheVariants as start
 use Rattle.vexpr_parse.specs.declared.beginning.Round.{Round}

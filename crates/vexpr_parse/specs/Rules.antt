@@ -5,7 +5,7 @@ use Rattle.vast.specs.TokenTexts.{token_text}
 use Rattle.vast.specs.Expressions.{ExpressionTree, parentheses, conversion}
 use Rattle.vast.specs.declared.token.Token.{Token}
 use Rattle.vlex.specs.Tokenized.{Tokenized}
-use Rattle.vast.specs.declared.expression.UnaryOperator.{UnaryOperator}
+use Rattle.vwords.specs.declared.operators.UnaryOperator.{UnaryOperator}
 use Rattle.vexpr_parse.specs.declared.beginning.Round.{Round}
 use Rattle.vexpr_parse.specs.declared.beginning.Round.TheVariants as round
 use Rattle.vexpr_parse.specs.declared.cursor.Cursor.{Cursor}

@@ -1,6 +1,6 @@
 // What the first word of an expression begins.
 
-use vast::expression::UnaryOperator;
+use vwords::operators::UnaryOperator;
 
 /// What the first word of an expression begins (IEEE 1364-2005, A.8.4).
 #[derive(Clone, Copy, PartialEq, Eq)]

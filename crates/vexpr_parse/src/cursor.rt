@@ -1,7 +1,7 @@
 // A place between two tokens, and what stands at it.
 
 ghost use Rattle.std.specs.Prelude.{◌≡◌, ◌++◌, [], true, false, length, drop, codes, MatchOption, OnOk};
-ghost use Rattle.vast.specs.Words.{is_leaf};
+ghost use Rattle.vwords.specs.Words.{is_leaf};
 ghost use Rattle.vlex.specs.Tokenized.{Tokenized};
 ghost use Rattle.vexpr_parse.specs.Texts.{words_of};
 ghost use Rattle.vexpr_parse.specs.Readers.{front, is_front};
@@ -11,10 +11,10 @@ ghost use Rattle.vexpr_parse.specs.Answers.{ahead, leaves_ahead, leaf_here, leaf
 use crate::stop::Stop;
 use crate::words::{binary_of, is};
 use basis::OrMemory;
-use vast::expression::BinaryOperator;
 use vast::operators::rank;
 use vast::token::Token;
 use vlex::Tokens;
+use vwords::operators::BinaryOperator;
 
 /// A place between two tokens, and the words that are left after it.
 #[derive(Clone, Copy)]

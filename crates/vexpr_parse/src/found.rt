@@ -1,7 +1,7 @@
 // What readers of expressions hand on: a tree, and how deep it nests.
 
 ghost use Rattle.std.specs.Prelude.{◌≡◌, ◌∷◌, ◌++◌, List, max, IfOk};
-ghost use Rattle.vast.specs.Words.{Text};
+ghost use Rattle.vwords.specs.Words.{Text};
 ghost use Rattle.vast.specs.TokenTexts.{token_text};
 ghost use Rattle.vast.specs.Expressions.{bit, part, parentheses, conversion, apply, combine};
 ghost use Rattle.vast.specs.ExpressionTrees.{tree_of};
@@ -10,8 +10,9 @@ ghost use Rattle.vexpr_parse.specs.Answers.{found_leaves, parts_leaves, IsShallo
 
 use basis::NoMemory;
 use std::alloc::Global;
-use vast::expression::{BinaryOperator, Expression, UnaryOperator};
+use vast::expression::Expression;
 use vast::token::Token;
+use vwords::operators::{BinaryOperator, UnaryOperator};
 
 /// An expression that was read, and its depth (docs/LANGUAGE.md, "Depth").
 #[derive(Drop)]

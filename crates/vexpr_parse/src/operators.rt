@@ -10,9 +10,9 @@ use crate::found::{Found, combination_of, conditional_of};
 use crate::stop::Stop;
 use basis::OrMemory;
 use std::alloc::Global;
-use vast::expression::BinaryOperator;
 use vast::operators::rank;
 use vlex::Tokens;
+use vwords::operators::BinaryOperator;
 
 // The operator here, of this rank at least, and its right side.
 #[tactic(auto, using(crate::proofs::Turning::turn_enters, crate::proofs::Turning::turn_low, crate::proofs::LeafWords::operator_leaf))]

@@ -14,10 +14,11 @@ use crate::stop::Stop;
 use crate::words::beginning_of;
 use basis::OrMemory;
 use std::alloc::Global;
-use vast::expression::{Expression, UnaryOperator};
+use vast::expression::Expression;
 use vast::operators::UNARY_RANK;
 use vast::token::Token;
 use vlex::Tokens;
+use vwords::operators::UnaryOperator;
 
 // An expression, and the parenthesis behind it.
 fn parenthesis<F: Fn(&mut Cursor, u32) -> Result<Found, OrMemory<Stop>>>(

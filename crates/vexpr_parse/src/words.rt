@@ -7,9 +7,9 @@ ghost use Rattle.vast.specs.Expressions.{unary_word as unary_text, binary_word a
 ghost use Rattle.vexpr_parse.specs.Words.{by_spelling, begins_among as begins_among_text, beginning_of as beginning_of_text, unary_of as unary_of_text, binary_of as binary_of_text};
 
 use crate::beginning::{Beginning, Round};
-use vast::expression::{BinaryOperator, UnaryOperator};
 use vast::operators::{binary_word, unary_word};
-use vast::words::{is_name, is_number};
+use vwords::operators::{BinaryOperator, UnaryOperator};
+use vwords::words::{is_name, is_number};
 
 static UNARY: [UnaryOperator; 11] = [
     UnaryOperator::Plus,

@@ -14,8 +14,8 @@ use Rattle.vvalue.specs.Value.{Environment}
 use Rattle.vmodel.specs.declared.effect.Disposition.{Disposition}
 use Rattle.vmodel.specs.declared.effect.Disposition.TheVariants.{Runnable, Delayed, Waiting}
 use Rattle.vmodel.specs.declared.part.Part.{Part}
-use Rattle.vmodel.specs.declared.process.Frame.{Frame}
-use Rattle.vmodel.specs.declared.process.Frame.TheVariants.{Executing, Repeating, Writing}
+use Rattle.vmodel.specs.declared.frame.Frame.{Frame}
+use Rattle.vmodel.specs.declared.frame.Frame.TheVariants.{Executing, Repeating, Writing}
 use Rattle.vmodel.specs.Kept.{RisesFrom, waits_of}
 use Rattle.vmodel.specs.Parts.{with_parts}
 use Rattle.vmodel.specs.State.{Process}

@@ -6,8 +6,8 @@ use Rattle.vdesign.specs.declared.action.Action.{Action}
 use Rattle.vdesign.specs.declared.action.Action.TheVariants.{Assign, Nonblocking, AssignDelayed, NonblockingDelayed, Trigger, Test, Case, While, Repeat, Forever, Delay, EventControl, Wait, ContinuousAssign, Print, DumpVars, Dump, NoOperation, Finish, Stop}
 use Rattle.vvalue.specs.Value.{Environment, holds, delay_of}
 use Rattle.vvalue.specs.Cases.{places_of_case, turns_of}
-use Rattle.vmodel.specs.declared.process.Frame.{Frame}
-use Rattle.vmodel.specs.declared.process.Frame.TheVariants.{Executing, Repeating, Writing}
+use Rattle.vmodel.specs.declared.frame.Frame.{Frame}
+use Rattle.vmodel.specs.declared.frame.Frame.TheVariants.{Executing, Repeating, Writing}
 use Rattle.vmodel.specs.declared.effect.Disposition.TheVariants.{Delayed, Waiting}
 use Rattle.vmodel.specs.Effects.{Effect, no_effect}
 use Rattle.vmodel.specs.Step.{StepResult, frames, turns_left, place_of, execute_at}

@@ -15,7 +15,7 @@ use Rattle.vmodel.specs.declared.choice.Choice.{Choice}
 use Rattle.vmodel.specs.declared.choice.Choice.TheVariants.{Run, Update, Advance}
 use Rattle.vmodel.specs.Effects.{Effect}
 use Rattle.vmodel.specs.declared.part.Part.{Part}
-use Rattle.vmodel.specs.declared.process.Frame.{Frame}
+use Rattle.vmodel.specs.declared.frame.Frame.{Frame}
 use Rattle.vmodel.specs.Holding.{held_after}
 use Rattle.vmodel.specs.Inner.{variable_of}
 use Rattle.vmodel.specs.InnerStep.{step_result, transition_to}

@@ -13,8 +13,8 @@ use Rattle.vmodel.specs.declared.effect.Shown.{Shown}
 use Rattle.vmodel.specs.declared.effect.Shown.TheVariants.{Commands, Prints, Watches}
 use Rattle.vmodel.specs.declared.history.Item.{Item}
 use Rattle.vmodel.specs.declared.part.Part.{Part}
-use Rattle.vmodel.specs.declared.process.Frame.{Frame}
-use Rattle.vmodel.specs.declared.process.Frame.TheVariants.{Executing, Repeating, Writing}
+use Rattle.vmodel.specs.declared.frame.Frame.{Frame}
+use Rattle.vmodel.specs.declared.frame.Frame.TheVariants.{Executing, Repeating, Writing}
 use Rattle.vmodel.specs.Choices.{choices}
 use Rattle.vmodel.specs.Kept.{RisesFrom, IsKept, count_in, asleep, places, most_places}
 use Rattle.vmodel.specs.Parts.{with_parts}

@@ -5,8 +5,8 @@ use Rattle.std.specs.List.{Contains}
 use Rattle.vcode.specs.declared.point.Point.TheVariants as point
 use Rattle.vcode.specs.Code.{Code, counter_at, turns_by}
 use Rattle.vdesign.specs.Design.{Design}
-use Rattle.vmodel.specs.declared.process.Frame.{Frame}
-use Rattle.vmodel.specs.declared.process.Frame.TheVariants.{Repeating}
+use Rattle.vmodel.specs.declared.frame.Frame.{Frame}
+use Rattle.vmodel.specs.declared.frame.Frame.TheVariants.{Repeating}
 use Rattle.vmodel.specs.Kept.{waits_of}
 use Rattle.vmodel.specs.Run.{opening_process}
 use Rattle.vmodel.specs.State.{Process, State}

@@ -5,8 +5,8 @@ use Rattle.vbits.specs.Vectors.{Vector}
 use Rattle.vcode.specs.declared.point.Point.TheVariants as point
 use Rattle.vcode.specs.Code.{Code, link_at, turns_at, settle, behind}
 use Rattle.vdesign.specs.Design.{Design}
-use Rattle.vmodel.specs.declared.process.Frame.{Frame}
-use Rattle.vmodel.specs.declared.process.Frame.TheVariants.{Executing, Repeating, Writing}
+use Rattle.vmodel.specs.declared.frame.Frame.{Frame}
+use Rattle.vmodel.specs.declared.frame.Frame.TheVariants.{Executing, Repeating, Writing}
 use Rattle.vmodel.specs.State.{Process, State, without_processes}
 use Rattle.vmodel.specs.Step.{place_of}
 use Rattle.vcompile.specs.Listening.{resumes_at}

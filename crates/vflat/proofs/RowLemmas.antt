@@ -14,8 +14,8 @@ use Rattle.vvalue.specs.Cases.{turns_of}
 use Rattle.vmodel.specs.declared.choice.Choice.TheVariants.{Run}
 use Rattle.vmodel.specs.declared.effect.Disposition.TheVariants.{Delayed, Waiting}
 use Rattle.vmodel.specs.declared.part.Part.{Part}
-use Rattle.vmodel.specs.declared.process.Frame.{Frame}
-use Rattle.vmodel.specs.declared.process.Frame.TheVariants.{Executing, Repeating}
+use Rattle.vmodel.specs.declared.frame.Frame.{Frame}
+use Rattle.vmodel.specs.declared.frame.Frame.TheVariants.{Executing, Repeating}
 use Rattle.vmodel.specs.Effects.{Effect, no_effect}
 use Rattle.vmodel.specs.InnerStep.{behind, step_result}
 use Rattle.vmodel.specs.Queue.{Queue}

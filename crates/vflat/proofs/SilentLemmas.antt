@@ -8,7 +8,7 @@ use Rattle.vdesign.specs.declared.action.Action.{Action}
 use Rattle.vmodel.specs.declared.choice.Choice.{Choice}
 use Rattle.vmodel.specs.declared.choice.Choice.TheVariants.{Run, Update, Advance}
 use Rattle.vmodel.specs.Effects.{Effect}
-use Rattle.vmodel.specs.declared.process.Frame.{Frame}
+use Rattle.vmodel.specs.declared.frame.Frame.{Frame}
 use Rattle.vmodel.specs.InnerSilent.{is_some_print, ShowsNoLine}
 use Rattle.vmodel.specs.Printed.{lines_before}
 use Rattle.vmodel.specs.State.{State}

@@ -10,7 +10,7 @@ use Rattle.vmodel.specs.Step.{place_of}
 use Rattle.vmodel.specs.declared.choice.Choice.{Choice}
 use Rattle.vmodel.specs.declared.choice.Choice.TheVariants.{Run, Update, Advance}
 use Rattle.vmodel.specs.Effects.{Effect}
-use Rattle.vmodel.specs.declared.process.Frame.{Frame}
+use Rattle.vmodel.specs.declared.frame.Frame.{Frame}
 use Rattle.vmodel.proofs.TouchedLemmas.{moves_keep, next_writes, transition_writes}
 use Rattle.vflat.specs.Flat.{Flat, point_in, frame_at, flat_after, flat_updated, flat_action, flat_frame, flat_transition_of, flat_by, flat_next}
 use Rattle.vflat.specs.Representations.{Representation, plain, fast, RepresentedTransition, rest_in, representation_next, representation_to}

@@ -21,8 +21,8 @@ use Rattle.vmodel.specs.declared.effect.Disposition.{Disposition}
 use Rattle.vmodel.specs.declared.effect.Disposition.TheVariants.{Runnable, Delayed, Waiting}
 use Rattle.vmodel.specs.Effects.{Effect, no_effect}
 use Rattle.vmodel.specs.declared.part.Part.{Part}
-use Rattle.vmodel.specs.declared.process.Frame.{Frame}
-use Rattle.vmodel.specs.declared.process.Frame.TheVariants.{Executing, Repeating, Writing}
+use Rattle.vmodel.specs.declared.frame.Frame.{Frame}
+use Rattle.vmodel.specs.declared.frame.Frame.TheVariants.{Executing, Repeating, Writing}
 use Rattle.vmodel.specs.Choices.{choices}
 use Rattle.vmodel.specs.Inner.{variable_of}
 use Rattle.vmodel.specs.InnerWaking.{with_active}

@@ -6,8 +6,8 @@ use Rattle.vcode.specs.Code.{Code}
 use Rattle.vdesign.specs.declared.action.Action.{Action}
 use Rattle.vvalue.specs.Value.{Environment}
 use Rattle.vmodel.specs.declared.effect.Disposition.TheVariants.{Delayed, Waiting}
-use Rattle.vmodel.specs.declared.process.Frame.{Frame}
-use Rattle.vmodel.specs.declared.process.Frame.TheVariants.{Executing, Repeating}
+use Rattle.vmodel.specs.declared.frame.Frame.{Frame}
+use Rattle.vmodel.specs.declared.frame.Frame.TheVariants.{Executing, Repeating}
 use Rattle.vmodel.specs.Effects.{Effect, no_effect}
 use Rattle.vmodel.specs.InnerStep.{step_result}
 use Rattle.vmodel.specs.Step.{place_of, execute_at, post_after}

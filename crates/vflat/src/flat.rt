@@ -16,12 +16,22 @@ use vkernel::Kernel;
 use vstrata::digest::mix;
 
 /// A state kept flat. A clause sees it as the record `Flat` of specs/Flat.antt.
-#[derive(Drop)]
 pub struct Flat {
     pub(crate) points: Points,
     pub(crate) turns: Turns,
     pub(crate) held: Vec<Option<Vec4>>,
     pub(crate) rest: Kernel,
+}
+
+impl Drop for Flat {
+    fn drop(self) {
+        let Flat {
+            points: _,
+            turns: _,
+            held: _,
+            rest: _,
+        } = self;
+    }
 }
 
 impl Model for Flat {

@@ -4,11 +4,11 @@ use Rattle.std.specs.List.{list_all}
 use Rattle.std.proofs.lemmas.Bool.Decides.{nat_tests}
 use Rattle.basis.proofs.Bools.{and_left, and_right, and_both, and_false, and_assoc}
 use Rattle.basis.proofs.Lists.{longer}
-use Rattle.vast.specs.Words.{Text, reserved_words}
+use Rattle.vwords.specs.Words.{Text, reserved_words}
 use Rattle.vast.specs.Expressions.{ExpressionTree, ExpressionTrees, none, spell_expression, spell_parts, fits_expression, fits_parts, depth, greatest_depth}
 use Rattle.vast.specs.Expressions.{first as first_part}
 use Rattle.vast.specs.Statements.{StatementTree, empty, BranchTree, labelled, default, case_word, spell_statement, spell_branch, spell_branches, statement_depth, branch_depth, branches_depth, fits_statement, fits_branch, fits_branches, is_default, defaults}
-use Rattle.vast.specs.declared.statement.CaseKind.{CaseKind}
+use Rattle.vwords.specs.declared.cases.CaseKind.{CaseKind}
 use Rattle.vexpr_parse.specs.declared.beginning.Beginning.TheVariants as start
 use Rattle.vexpr_parse.specs.Readers.{got, Reader, front, is_front, past}
 use Rattle.vexpr_parse.specs.Words.{beginning_of, binary_of, unary_of, ends}

@@ -3,7 +3,7 @@ use Rattle.std.proofs.Common.{◌≡◌, ℕ, suc, Bool, true, false, ◌&&◌, 
 use Rattle.std.specs.Str.{bytes_eq}
 use Rattle.std.proofs.lemmas.Bool.{false_from_ne_true, not-true}
 use Rattle.basis.proofs.Bools.{and_left, and_right, and_both, clash}
-use Rattle.vast.specs.Words.{Text, is_name, reserved_words}
+use Rattle.vwords.specs.Words.{Text, is_name, reserved_words}
 use Rattle.vast.specs.Modules.{RangeTree, TypeTree, DirectionTree, input, output, output_integer, spell_range, spell_signed, spell_type, spell_direction, fits_type, fits_direction, net_word}
 use Rattle.vast.specs.declared.module.NetKind.{NetKind}
 use Rattle.vast.specs.declared.module.NetKind.TheVariants as net

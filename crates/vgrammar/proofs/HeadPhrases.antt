@@ -5,7 +5,7 @@ use Rattle.std.specs.Str.{bytes_eq}
 use Rattle.std.proofs.lemmas.Bool.{false_from_ne_true}
 use Rattle.basis.proofs.Bools.{and_left, and_right, and_both, clash}
 use Rattle.basis.proofs.Numbers.{one_within}
-use Rattle.vast.specs.Words.{Text, is_name, reserved_words}
+use Rattle.vwords.specs.Words.{Text, is_name, reserved_words}
 use Rattle.vast.specs.Expressions.{ExpressionTree}
 use Rattle.vast.specs.Statements.{TargetTree}
 use Rattle.vast.specs.Modules.{RangeTree, TypeTree, ParameterType, integer, typed, SettingTree, DeclaredTree, spell_range, spell_signed, spell_type, integer_word, spell_parameter_type, spell_setting, spell_value, spell_declared, fits_value, fits_range, fits_type, fits_parameter_type, fits_setting, fits_declared, are_some, NetAssignment, spell_net_assignment, fits_net_assignment}

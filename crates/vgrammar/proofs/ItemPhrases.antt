@@ -3,7 +3,7 @@ use Rattle.std.proofs.Common.{◌≡◌, ℕ, suc, ◌<◌, Bool, true, false, �
 use Rattle.basis.proofs.Bools.{and_left, and_right, and_both, and_assoc}
 use Rattle.basis.proofs.Numbers.{one_within}
 use Rattle.basis.proofs.Lists.{longer}
-use Rattle.vast.specs.Words.{Text, is_name, reserved_words}
+use Rattle.vwords.specs.Words.{Text, is_name, reserved_words}
 use Rattle.vast.specs.Expressions.{ExpressionTree, spell_expression}
 use Rattle.vast.specs.Statements.{StatementTree, empty}
 use Rattle.vast.specs.Modules.{SettingTree, DeclaredTree, ConnectionTree, ConnectionsTree, by_order, by_name, InstanceTree, variables, integers, directed, ItemTree, parameters, declaration, events, assignments, initial, always as always_item, instances, integer, spell_value, spell_declared, spell_connection, spell_connections, spell_instance, spell_item, parameter_word, net_word, fits_value, fits_type, fits_parameter_type, fits_setting, fits_declared, fits_connection, fits_connections, fits_overrides, fits_instance, fits_item, fits_direction, are_some, input, output, output_integer, NetAssignment, fits_net_assignment}

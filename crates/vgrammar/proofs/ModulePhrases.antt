@@ -2,7 +2,7 @@
 use Rattle.std.proofs.Common.{◌≡◌, ℕ, suc, ◌<◌, Bool, true, false, ◌&&◌, not, List, [], ◌∷◌, ◌++◌, Option, None, Some, is_some, refl, sym, ap, ◌∙◌, codes, zero-lt-suc}
 use Rattle.std.specs.List.{list_all}
 use Rattle.basis.proofs.Bools.{and_left, and_right, and_both, and_assoc}
-use Rattle.vast.specs.Words.{Text, is_name, reserved_words}
+use Rattle.vwords.specs.Words.{Text, is_name, reserved_words}
 use Rattle.vast.specs.Expressions.{ExpressionTree}
 use Rattle.vast.specs.Statements.{with_commas, in_parentheses}
 use Rattle.vast.specs.Modules.{ParameterType, typed, SettingTree, DeclaredTree, DirectionTree, input, output, output_integer, PortTree, HeadParameter, ItemTree, parameters, declaration, variables, integers, directed, events, assignments, initial, always as always_item, instances, ModuleTree, SourceTree, spell_port, spell_head_parameter, spell_module, fits_direction, fits_declared, fits_port, is_directed, is_named_port, fits_behind, fits_ports, fits_head_parameter, is_kind, fits_head_parameters, fits_item, fits_module}

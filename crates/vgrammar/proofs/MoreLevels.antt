@@ -2,7 +2,7 @@
 use Rattle.std.proofs.Common.{◌≡◌, ℕ, ◌≤◌, Bool, true, ◌&&◌, nat_le, List, [], ◌∷◌, Option, None, Some, length, refl}
 use Rattle.std.specs.List.{list_all}
 use Rattle.basis.proofs.Bools.{and_left, and_right, and_both}
-use Rattle.vast.specs.Words.{Text, is_name}
+use Rattle.vwords.specs.Words.{Text, is_name}
 use Rattle.vast.specs.Expressions.{ExpressionTree, depth, fits_expression}
 use Rattle.vast.specs.Statements.{StatementTree, statement_depth, fits_statement, fits_target, target_depth}
 use Rattle.vast.specs.Modules.{RangeTree, TypeTree, ParameterType, integer, typed, SettingTree, DeclaredTree, DirectionTree, input, output, output_integer, PortTree, HeadParameter, ConnectionTree, ConnectionsTree, by_order, by_name, InstanceTree, DeclarationKind, variables, integers, directed, ItemTree, parameters, declaration, events, assignments, initial, always, instances, ModuleTree, SourceTree, fits_value, fits_optional, fits_range, fits_type, fits_parameter_type, fits_setting, fits_declared, fits_direction, fits_port, fits_behind, fits_ports, fits_kind, fits_head_parameter, is_kind, fits_head_parameters, fits_connection, fits_connections, fits_overrides, fits_instance, fits_declaration_kind, are_some, fits_body, fits_item, fits_optional_parameters, fits_optional_ports, fits_module, DerivesWithin, NetAssignment, fits_net_assignment}

@@ -1,7 +1,7 @@
 -- With three levels more: targets, delays, event controls, arguments and what is dumped.
 use Rattle.std.proofs.Common.{◌≡◌, ℕ, zero, suc, Bool, true, false, ◌||◌, nat_le, if◌then◌else◌, List, refl, codes}
 use Rattle.std.specs.Str.{bytes_eq}
-use Rattle.vast.specs.Words.{Text, is_name, is_number, is_string}
+use Rattle.vwords.specs.Words.{Text, is_name, is_number, is_string}
 use Rattle.vast.specs.Statements.{TargetTree}
 use Rattle.vexpr_parse.specs.Readers.{Reader, is_front, goes, refused, lower, room, past}
 use Rattle.vexpr_parse.specs.Words.{ends_primary}

@@ -5,7 +5,7 @@ use Rattle.std.specs.Str.{bytes_eq}
 use Rattle.std.proofs.lemmas.Bool.{false_from_ne_true}
 use Rattle.basis.proofs.Bools.{and_left, and_both, clash}
 use Rattle.basis.proofs.Numbers.{one_within}
-use Rattle.vast.specs.Words.{Text, is_name, is_number, is_string, reserved_words}
+use Rattle.vwords.specs.Words.{Text, is_name, is_number, is_string, reserved_words}
 use Rattle.vast.specs.Expressions.{ExpressionTree, spell_expression, fits_expression, depth}
 use Rattle.vast.specs.Statements.{DelayTree, by_number, by_name, by_value, in_parentheses, spell_delay, delay_depth, fits_delay, TermTree, FurtherTerm, EventTree, by_event, by_any, by_any_enclosed, by_terms, edge_word, spell_edge, spell_term, spell_further_term, fits_event, fits_further_term, ArgumentTree, quoted, printed, left_out, spell_argument, argument_depth, fits_argument, SelectionTree, spell_path, fits_path}
 use Rattle.vast.specs.declared.statement.Edge.{Edge}

@@ -3,7 +3,7 @@
 use Rattle.std.proofs.Common.{◌≡◌, ℕ, suc, ◌+◌, ◌<◌, Bool, true, false, ◌&&◌, if◌then◌else◌, List, [], ◌∷◌, ◌++◌, Option, None, Some, length, refl, sym, ap, ◌∙◌, arith, subst, append_assoc, length-append}
 use Rattle.std.specs.Str.{bytes_eq}
 use Rattle.basis.proofs.Bools.{and_left, and_right, and_both}
-use Rattle.vast.specs.Words.{Text}
+use Rattle.vwords.specs.Words.{Text}
 use Rattle.vexpr_parse.specs.Readers.{Answer, got, stop, Reader, front, goes, refused, follow, past}
 use Rattle.vexpr_parse.specs.Lawful.{Ends, GoesOn, Sees, Lawful, Rule}
 use Rattle.vexpr_parse.proofs.ReaderRules.{chosen, same_text, text_same, stop_got, got_tree, got_left, then_got, parts_of, Eats, got_rule, IsLead, led_sees}

@@ -1,7 +1,7 @@
 -- Reading gives the one tree of the words of a text.
 use Rattle.std.proofs.Common.{◌≡◌, ℕ, suc, ◌+◌, ◌≤◌, true, false, not, List, [], ◌∷◌, ◌++◌, refl, sym, ap, ◌∙◌, arith}
 use Rattle.std.proofs.lemmas.List.{append-nil}
-use Rattle.vast.specs.Words.{Text}
+use Rattle.vwords.specs.Words.{Text}
 use Rattle.vast.specs.Modules.{fits_module, spell}
 use Rattle.vexpr_parse.specs.Readers.{front}
 use Rattle.vexpr_parse.proofs.ReaderRules.{got_tree}

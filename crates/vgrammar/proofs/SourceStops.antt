@@ -1,6 +1,6 @@
 -- Reading of whole texts stops at the place from which the words begin none.
 use Rattle.std.proofs.Common.{◌≡◌, ℕ, zero, suc, ◌+◌, ◌*◌, ◌≤◌, List, [], ◌∷◌, ◌++◌, refl, sym, ap, ◌∙◌, arith, subst}
-use Rattle.vast.specs.Words.{Text}
+use Rattle.vwords.specs.Words.{Text}
 use Rattle.vast.specs.Modules.{fits_module}
 use Rattle.vexpr_parse.specs.declared.stop.Stop.TheVariants.{NoTree}
 use Rattle.vexpr_parse.specs.Readers.{stop, front}

@@ -4,10 +4,10 @@ use Rattle.std.proofs.lemmas.Bool.{cases_Bool}
 use Rattle.std.proofs.lemmas.Bool.Decides.{nat_tests}
 use Rattle.basis.proofs.Bools.{and_left, and_right, or_left, or_right, or_first, clash}
 use Rattle.basis.proofs.Numbers.{one_within}
-use Rattle.vast.specs.Words.{Text, is_name, is_string, reserved_words}
+use Rattle.vwords.specs.Words.{Text, is_name, is_string, reserved_words}
 use Rattle.vast.specs.Expressions.{ExpressionTree, fits_expression, depth}
 use Rattle.vast.specs.Statements.{TargetTree, whole, bit, part, joined, TaskTree, print, idle, dump_file, dump_vars, dump, end_run, StatementTree, empty, block, assign, nonblocking, trigger, if_true, if_else, case_of, while_true, repeat_times, forever, for_loop, wait_for, delay, event, task, StatementTrees, no_statement, first_statement, BranchTree, BranchTrees, no_branch, first_branch, spell_target, spell_statement, target_depth, statement_depth, fits_target, fits_statement}
-use Rattle.vast.specs.declared.statement.CaseKind.TheVariants as case_kind
+use Rattle.vwords.specs.declared.cases.CaseKind.TheVariants as case_kind
 use Rattle.vast.specs.declared.statement.Base.TheVariants as bases
 use Rattle.vast.specs.declared.statement.Printing.TheVariants as printing
 use Rattle.vast.specs.declared.statement.Idle.TheVariants as idles

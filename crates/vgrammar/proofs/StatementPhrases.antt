@@ -3,7 +3,7 @@ use Rattle.std.proofs.Common.{◌≡◌, ℕ, suc, ◌+◌, ◌<◌, Bool, true,
 use Rattle.std.proofs.lemmas.List.{append-nil}
 use Rattle.std.proofs.lemmas.Bool.Decides.{nat_tests}
 use Rattle.basis.proofs.Bools.{and_left, and_right, and_both, and_assoc}
-use Rattle.vast.specs.Words.{Text, is_name, reserved_words}
+use Rattle.vwords.specs.Words.{Text, is_name, reserved_words}
 use Rattle.vast.specs.Expressions.{ExpressionTree, spell_expression, fits_expression, depth}
 use Rattle.vast.specs.Statements.{TargetTree, DelayTree, EventTree, by_event, by_any, by_any_enclosed, by_terms, spell_target, spell_optional_delay, spell_event, delay_depth, optional_delay_depth, event_depth, target_depth, fits_target, fits_delay, fits_optional_delay, fits_event, StatementTree, empty, forever, spell_statement, spell_statements, statement_depth, statements_depth, ends_in_if, fits_statement, fits_statements, fits_block_name}
 use Rattle.vexpr_parse.specs.declared.beginning.Beginning.TheVariants as start

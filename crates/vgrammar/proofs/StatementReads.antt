@@ -2,7 +2,7 @@
 use Rattle.std.proofs.Common.{◌≡◌, ℕ, Bool, true, false, ◌&&◌, not, nat_le, List, [], ◌++◌, None, refl, sym, ap, ◌∙◌}
 use Rattle.std.proofs.lemmas.List.{append-nil}
 use Rattle.basis.proofs.Bools.{and_left, and_right, and_both}
-use Rattle.vast.specs.Words.{Text}
+use Rattle.vwords.specs.Words.{Text}
 use Rattle.vast.specs.Statements.{StatementTree, spell_statement, statement_depth, fits_statement, ends_in_if}
 use Rattle.vexpr_parse.specs.Readers.{got}
 use Rattle.vexpr_parse.proofs.ReaderRules.{got_tree}

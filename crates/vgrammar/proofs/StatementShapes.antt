@@ -3,7 +3,7 @@ use Rattle.std.proofs.Common.{◌≡◌, ℕ, suc, ◌+◌, ◌<◌, Bool, true,
 use Rattle.std.specs.List.{list_all}
 use Rattle.std.proofs.lemmas.Bool.Decides.{nat_tests}
 use Rattle.basis.proofs.Bools.{and_false, and_assoc}
-use Rattle.vast.specs.Words.{Text}
+use Rattle.vwords.specs.Words.{Text}
 use Rattle.vast.specs.Expressions.{ExpressionTree, spell_expression, spell_more_parts, fits_expression, fits_parts, depth, greatest_depth}
 use Rattle.vast.specs.Statements.{whole, bit, part, joined, by_number, by_name, by_value, by_event, by_any, by_any_enclosed, by_terms, print, idle, dump_file, dump_vars, dump, end_run, StatementTree, empty, block, assign, nonblocking, trigger, if_true, if_else, case_of, while_true, repeat_times, forever, for_loop, wait_for, delay, event, task, spell_condition, spell_statement, statement_depth, fits_statement, ends_in_if}
 use Rattle.vexpr_parse.specs.Readers.{is_front}

@@ -3,7 +3,7 @@ use Rattle.std.proofs.Common.{◌≡◌, ℕ, suc, ◌+◌, ◌<◌, Bool, true,
 use Rattle.std.specs.List.{list_all}
 use Rattle.basis.proofs.Bools.{and_left, and_right}
 use Rattle.basis.proofs.Numbers.{one_within}
-use Rattle.vast.specs.Words.{Text, is_number, is_string}
+use Rattle.vwords.specs.Words.{Text, is_number, is_string}
 use Rattle.vast.specs.Statements.{ArgumentTree, quoted, printed, left_out, SelectionTree, StatementTree, print_word, idle_word, dump_word, end_word, argument_depth, arguments_depth, fits_argument, fits_print, fits_selection, spell_statement}
 use Rattle.vast.specs.declared.statement.Dumping.{Dumping}
 use Rattle.vast.specs.declared.statement.Printing.{Printing}

@@ -3,7 +3,7 @@ use Rattle.std.proofs.Common.{◌≡◌, ℕ, zero, suc, ◌<◌, Bool, true, fa
 use Rattle.std.specs.List.{list_all}
 use Rattle.std.proofs.lemmas.Bool.Decides.{nat_tests}
 use Rattle.basis.proofs.Bools.{and_left, and_right, and_both}
-use Rattle.vast.specs.Words.{Text, reserved_words}
+use Rattle.vwords.specs.Words.{Text, reserved_words}
 use Rattle.vast.specs.Expressions.{ExpressionTree, name, spell_expression, fits_expression, depth, rank_of}
 use Rattle.vast.proofs.ExpressionLemmas.{depth_positive}
 use Rattle.vexpr_parse.specs.Readers.{got, Reader, front, is_front, past}

@@ -1,7 +1,7 @@
 -- *internal*: Lists with commas, up to the word that ends them. The readers of the grammar are made of `comma_list`, and these are what
 -- the program's loops go on from.
 use Rattle.std.specs.Prelude.{List, [], ◌∷◌, codes}
-use Rattle.vast.specs.Words.{Text}
+use Rattle.vwords.specs.Words.{Text}
 use Rattle.vexpr_parse.specs.Readers.{Reader, got, and_then, past, is_front, turns}
 use Rattle.vgrammar.specs.Parts.{one_behind}
 

@@ -1,6 +1,6 @@
 -- *internal*: Readers made of others: a pair, a list, what may be left out, and what is made of what was read.
 use Rattle.std.specs.Prelude.{ℕ, nat_le, Bool, if◌then◌else◌, List, [], ◌∷◌, ◌++◌, Option, Some, None}
-use Rattle.vast.specs.Words.{Text}
+use Rattle.vwords.specs.Words.{Text}
 use Rattle.vexpr_parse.specs.declared.stop.Stop.TheVariants.{TooDeep}
 use Rattle.vexpr_parse.specs.Readers.{Reader, Lead, goes, refused, got, stop, and_then, by_word, choose, turns}
 

@@ -1,7 +1,7 @@
 -- *product rule*: What is read as a text, and where words stop to begin one (docs/LANGUAGE.md, "Grammar" and "Depth"). What reading gives
 -- is a law.
 use Rattle.std.specs.Prelude.{◌≡◌, ℕ, suc, ◌≤◌, List, [], ◌∷◌, ◌++◌}
-use Rattle.vast.specs.Words.{Text}
+use Rattle.vwords.specs.Words.{Text}
 use Rattle.vast.specs.Modules.{SourceTree, DerivesWithin}
 use Rattle.vexpr_parse.specs.declared.stop.Stop.{Stop}
 use Rattle.vexpr_parse.specs.declared.stop.Stop.TheVariants.{NoTree, TooDeep}

@@ -1,9 +1,9 @@
 -- *internal*: What the first word of a statement begins (IEEE 1364-2005, A.6).
 use Rattle.std.specs.Prelude.{Bool, true, false, ◌||◌, if◌then◌else◌, List, [], ◌∷◌, Option, Some, None, codes}
 use Rattle.std.specs.Str.{bytes_eq}
-use Rattle.vast.specs.Words.{Text, is_name}
+use Rattle.vwords.specs.Words.{Text, is_name}
 use Rattle.vast.specs.Statements.{case_word, edge_word, print_word, idle_word, dump_word, end_word}
-use Rattle.vast.specs.declared.statement.CaseKind.TheVariants as case_kind
+use Rattle.vwords.specs.declared.cases.CaseKind.TheVariants as case_kind
 use Rattle.vast.specs.declared.statement.Edge.{Edge}
 use Rattle.vast.specs.declared.statement.Edge.TheVariants as edge
 use Rattle.vast.specs.declared.statement.Base.TheVariants as bases

@@ -1,6 +1,6 @@
 -- *internal*: What is read as a statement, and where words stop to be one (docs/LANGUAGE.md, "Grammar" and "Depth").
 use Rattle.std.specs.Prelude.{◌≡◌, ℕ, suc, ◌≤◌, nat_le, true, List, [], ◌∷◌, ◌++◌}
-use Rattle.vast.specs.Words.{Text}
+use Rattle.vwords.specs.Words.{Text}
 use Rattle.vast.specs.Statements.{StatementTree, spell_statement, statement_depth, fits_statement}
 use Rattle.vexpr_parse.specs.declared.stop.Stop.{Stop}
 use Rattle.vexpr_parse.specs.declared.stop.Stop.TheVariants.{NoTree, TooDeep}

@@ -6,9 +6,10 @@ ghost use Rattle.vast.specs.Statements.{dump_word as dump_text};
 ghost use Rattle.vexpr_parse.specs.Words.{by_spelling};
 ghost use Rattle.vgrammar.specs.Starts.{guard_word as guard_text, start_word as start_text, start_of as start_of_text, begins_target as begins_target_text};
 
-use vast::statement::{Base, CaseKind, Dumping, Idle, Printing};
-use vast::statement_parts_spelling::{case_word, idle_word, print_word};
-use vast::words::is_name;
+use vast::keywords::{case_word, idle_word, print_word};
+use vast::statement::{Base, Dumping, Idle, Printing};
+use vwords::cases::CaseKind;
+use vwords::words::is_name;
 
 /// What the first word of a statement begins, unless it begins what an assignment writes to (IEEE 1364-2005, A.6.4).
 #[derive(Clone, Copy, PartialEq, Eq)]

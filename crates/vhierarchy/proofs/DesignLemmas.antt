@@ -1,6 +1,6 @@
 -- Faults of the modules' names, of the top and of the whole, and what they say of a text.
 use Rattle.std.proofs.Common.{◌≡◌, ◌<◌, ℕ, ◌+◌, length, drop, get_or, List, [], ◌∷◌, ◌++◌, Option, Some, None, true, Result, Ok, Err, IfOk, refl, sym, ap, ◌∙◌}
-use Rattle.vast.specs.Words.{Text}
+use Rattle.vwords.specs.Words.{Text}
 use Rattle.vast.specs.NumberedWords.{Word}
 use Rattle.vast.specs.NumberedModules.{ModuleTree, SourceTree}
 use Rattle.basis.specs.declared.memory.OrMemory.{OrMemory}

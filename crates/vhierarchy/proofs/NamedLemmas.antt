@@ -8,15 +8,15 @@ use Rattle.std.proofs.lemmas.List.Folds.{list_all-append}
 use Rattle.std.proofs.lemmas.Slice.Eq.{bytes_eq-Decides}
 use Rattle.basis.proofs.Bools.{and_left, and_right, and_both, or_left, or_right, or_first, or_second}
 use Rattle.basis.specs.declared.timescale.Timescale.{Timescale}
-use Rattle.vast.specs.Words.{Text, is_name, without_backslash, is_printable, are_printable}
-use Rattle.vast.specs.Names.{is_path}
+use Rattle.vwords.specs.Words.{Text, is_name, without_backslash, is_printable, are_printable}
+use Rattle.vwords.specs.Names.{is_path}
 use Rattle.vast.specs.Modules.{DerivesText, SourceTree as PlainTree, fits, fits_module, fits_item, fits_declared, fits_optional, fits_optional_parameters, fits_optional_ports, fits_port, fits_direction, fits_declaration_kind, fits_overrides, fits_instance, fits_connections, fits_behind, is_named_port, is_directed, are_some}
 use Rattle.vast.specs.Modules as plain
 use Rattle.vast.specs.NumberedWords.{Word}
 use Rattle.vast.specs.NumberedModules.{ConnectionsTree, InstanceTree, ItemTree, parameters, declaration, variables, integers, directed, events, assignments, initial, always, instances, DeclarationKind, DirectionTree, input, output, output_integer, PortTree, ModuleTree, SourceTree, RangeTree, DeclaredTree}
 use Rattle.vast.specs.NumberedTexts.{IsNumbered}
 use Rattle.vast.specs.TreeWords.{declared_with, instance_with, item_with, port_with, module_with, source_with}
-use Rattle.vast.proofs.NameLemmas.{name_printable}
+use Rattle.vwords.proofs.NameLemmas.{name_printable}
 use Rattle.vmodules.specs.Names.{has_double, is_declared, letters_of, first_again}
 use Rattle.vmodules.specs.Connected.{open_names, misfit, misfit_if}
 use Rattle.vmodules.specs.Hierarchy.{instantiated_names, module_names, module_of, rival_of, roots, only_of, top_of}

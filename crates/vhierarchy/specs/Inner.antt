@@ -1,7 +1,7 @@
 -- *internal*: What the steps of elaboration over instances are told by and answer.
 use Rattle.std.specs.Prelude.{◌≡◌, ℕ, nat_le, List, [], ◌∷◌, map, Option, Some, option_map, Result, Ok, Err}
 use Rattle.basis.specs.declared.memory.OrMemory.{OrMemory}
-use Rattle.vast.specs.Words.{Text}
+use Rattle.vwords.specs.Words.{Text}
 use Rattle.vast.specs.NumberedWords.{Word, word_of}
 use Rattle.vast.specs.NumberedTrees.{module_tree, item_tree, instance_tree, connections_tree}
 use Rattle.vast.specs.declared.module.ModuleItem.{ModuleItem}

@@ -1,6 +1,6 @@
 -- *internal*: Laws of the definitions, which functions of `law` prove.
 use Rattle.std.specs.Prelude.{◌≡◌, List, Option}
-use Rattle.vast.specs.Words.{Text}
+use Rattle.vwords.specs.Words.{Text}
 use Rattle.vast.specs.Modules.{DerivesText, SourceTree as PlainTree}
 use Rattle.vast.specs.NumberedModules.{SourceTree}
 use Rattle.vast.specs.NumberedTexts.{IsNumbered}

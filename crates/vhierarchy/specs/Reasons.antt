@@ -1,6 +1,6 @@
 -- *product rule*: Why a text has no design: the first rule that it breaks, and at which word (docs/FAULTS.md).
 use Rattle.std.specs.Prelude.{◌≡◌, Option}
-use Rattle.vast.specs.Words.{Text}
+use Rattle.vwords.specs.Words.{Text}
 use Rattle.vast.specs.NumberedModules.{SourceTree}
 use Rattle.basis.specs.declared.timescale.Timescale.{Timescale}
 use Rattle.vdesign.specs.Design.{Design}

@@ -5,7 +5,7 @@ ghost use Rattle.basis.specs.Reasons.{IfFault};
 ghost use Rattle.vdesign.specs.Design.{Design};
 ghost use Rattle.vast.specs.NumberedTrees.{source_tree, module_tree};
 ghost use Rattle.vast.specs.NumberedWords.{word_of};
-ghost use Rattle.vast.specs.Words.{Text};
+ghost use Rattle.vwords.specs.Words.{Text};
 ghost use Rattle.vexpr_parse.specs.Texts.{words_of};
 ghost use Rattle.vmodules.specs.Names.{first_again, has_double};
 ghost use Rattle.vmodules.specs.Inner.{unit_names, units_tree, named_text};

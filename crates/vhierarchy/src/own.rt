@@ -4,7 +4,7 @@ ghost use Rattle.std.specs.Prelude.{◌≡◌, ◌<◌, ◌≤◌, ◌+◌, ◌^
 ghost use Rattle.basis.specs.Reasons.{IfFault};
 ghost use Rattle.vast.specs.NumberedTrees.{module_tree};
 ghost use Rattle.vast.specs.NumberedWords.{word_of};
-ghost use Rattle.vast.specs.Words.{Text};
+ghost use Rattle.vwords.specs.Words.{Text};
 ghost use Rattle.vexpr_parse.specs.Texts.{words_of};
 ghost use Rattle.module_size.specs.Sizes.{module_size};
 ghost use Rattle.vmodules.specs.Placed.{placed_items};

@@ -25,13 +25,24 @@ use vvalue::environment::Environment;
 
 /// All of a state of a run but its processes: the values of the variables, the event queue, why the run ended, and, where the setting asks
 /// for these, what is held back and the lines of the slot. A clause sees it as the record `State` of vmodel, without processes.
-#[derive(Drop)]
 pub struct Kernel {
     pub(crate) values: Store,
     pub(crate) queue: RingStrata,
     pub(crate) cause: Option<Cause>,
     pub(crate) held_back: Option<ProcessSet>,
     pub(crate) printed: Option<Bag>,
+}
+
+impl Drop for Kernel {
+    fn drop(self) {
+        let Kernel {
+            values: _,
+            queue: _,
+            cause: _,
+            held_back: _,
+            printed: _,
+        } = self;
+    }
 }
 
 impl Model for Kernel {

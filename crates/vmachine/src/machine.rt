@@ -10,6 +10,7 @@ ghost use Rattle.vmodel.specs.Run.{opening_of};
 
 use crate::machine_state::MachineState;
 use basis::NoMemory;
+use plain_steps::{State, opening};
 use sched_core::setting::{Departures, Grain, Looked};
 use sched_core::{Ranked, Space};
 use std::alloc::Global;
@@ -19,12 +20,10 @@ use vcompile::compile;
 use vdesign::design::Design;
 use vflat::Flat;
 use vkernel::Kernel;
-use vmodel::{State, opening};
 
 /// The runs of a design within a time limit, in units of its precision, and in a grain; with which departures
 /// there are and what is looked at (docs/SCHEDULING.md, "Departures that hold back"). A clause sees it as the
 /// `Setting` of these five.
-#[derive(Drop)]
 pub struct Machine {
     pub(crate) alloc: Global,
     pub(crate) design: Design,
@@ -33,6 +32,20 @@ pub struct Machine {
     pub(crate) grain: Grain,
     pub(crate) departures: Departures,
     pub(crate) looked: Looked,
+}
+
+impl Drop for Machine {
+    fn drop(self) {
+        let Machine {
+            alloc: _,
+            design: _,
+            code: _,
+            until: _,
+            grain: _,
+            departures: _,
+            looked: _,
+        } = self;
+    }
 }
 
 impl Model for Machine {

@@ -7,13 +7,13 @@ ghost use Rattle.vmodel.specs.Run.{is_mark};
 
 use crate::rest::Rest;
 use basis::NoMemory;
+use plain_steps::State;
 use std::alloc::Global;
 use std::hash::{Hash, Hasher};
 use std::marker::Model;
 use vcode::code::Code;
 use vdesign::design::Design;
 use vflat::Flat;
-use vmodel::State;
 use vmodel::effect::Effect;
 
 /// How a state is kept: as it is, or flat. It stands behind a box, so that tables of states are small.
@@ -24,9 +24,14 @@ pub(crate) enum Kept {
 }
 
 /// Where a run stands. What it holds is the machine's own: the calls of `Machine` read it.
-#[derive(Drop)]
 pub struct MachineState {
     pub(crate) kept: Kept,
+}
+
+impl Drop for MachineState {
+    fn drop(self) {
+        let MachineState { kept: _ } = self;
+    }
 }
 
 impl Model for MachineState {

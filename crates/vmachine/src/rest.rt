@@ -8,13 +8,13 @@ ghost use Rattle.vmodel.specs.Step.{HasFront};
 ghost use Rattle.vmodel.specs.Touched.{front_items, is_slot_end};
 
 use basis::NoMemory;
+use plain_steps::State;
 use sched_core::bag::Bag;
 use sched_core::end::{Cause, End};
 use std::marker::Model;
 use vbits::Vec4;
 use vdesign::design::Design;
 use vkernel::Kernel;
-use vmodel::State;
 use vmodel::effect::Effect;
 use vmodel::history::Item;
 
@@ -139,7 +139,7 @@ impl<'s> Rest<'s> {
         }
     }
 
-    /// Puts behind others what a step to here gives to the history before the end of the slot, as `put_front` of `vmodel` does.
+    /// Puts behind others what a step to here gives to the history before the end of the slot, as `put_front` of `plain_steps` does.
     pub(crate) fn put_front(
         &self,
         items: &mut Vec<Item>,
@@ -153,7 +153,9 @@ impl<'s> Rest<'s> {
             (front_items design.now (transition_to self.now effect.now monitors.now)) items.new.items) }
     {
         match self.kept {
-            KeptRest::Plain(state) => vmodel::put_front(items, design, state, effect, monitors),
+            KeptRest::Plain(state) => plain_steps::put_front(
+                items, design, state, effect, monitors,
+            ),
             KeptRest::Flat(kernel) => vkernel::put_front(items, design, kernel, effect, monitors),
         }
     }

@@ -22,6 +22,7 @@ use crate::machine::Machine;
 use crate::machine_state::MachineState;
 use crate::rest::Rest;
 use basis::{NoMemory, OrMemory};
+use plain_steps::{put_items, put_slot_end};
 use sched_core::end::End;
 use sched_core::{Log, Member, ReplayFault, Space, next_choice};
 use std::fmt::Display;
@@ -32,7 +33,6 @@ use vmodel::history::{History, Item};
 use vmodel::sink::HistorySink;
 use vmodel::touched::Touched;
 use vmodel::values::Values;
-use vmodel::{put_items, put_slot_end};
 
 /// Why a run wasn't handed on to its end, but for want of memory.
 #[derive(Debug, Drop, Error)]
@@ -238,13 +238,24 @@ fn choose<'l>(
 }
 
 /// A run on its way: what its state is after so many steps, what is left of its log, and what is pending. Where it has paused nothing is.
-#[derive(Drop)]
 pub struct Run<'l> {
     log: &'l Log,
     rest: &'l [Member],
     n: u32,
     state: MachineState,
     pending: Pending,
+}
+
+impl<'l> Drop for Run<'l> {
+    fn drop(self) {
+        let Run {
+            log: _,
+            rest: _,
+            n: _,
+            state: _,
+            pending: _,
+        } = self;
+    }
 }
 
 impl Machine {

@@ -7,7 +7,7 @@ use Rattle.vmodel.specs.declared.effect.Post.{Post}
 use Rattle.vmodel.specs.declared.effect.Disposition.{Disposition}
 use Rattle.vmodel.specs.declared.effect.Disposition.TheVariants.{Runnable, Delayed, Waiting}
 use Rattle.vmodel.specs.declared.part.Part.{Part}
-use Rattle.vmodel.specs.declared.process.Frame.{Frame}
+use Rattle.vmodel.specs.declared.frame.Frame.{Frame}
 use Rattle.vmodel.specs.State.{Process}
 use Rattle.vmodel.specs.Queue.{Later, Queue, with_process, slot_with_sleeper, slot_with_update, later_at, later}
 use Rattle.vmodel.specs.Step.{deactivate, process_to_continue, with_next_step, with_delay, reschedule, posts_after, posts, activate_next_region, with_queue_moves, continuation_of, waits_by}

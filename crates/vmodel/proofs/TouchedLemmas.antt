@@ -19,7 +19,7 @@ use Rattle.vmodel.specs.Choices.{choices}
 use Rattle.vmodel.specs.Run.{is_mark}
 use Rattle.vmodel.specs.declared.choice.Choice.{Choice}
 use Rattle.vmodel.specs.declared.choice.Choice.TheVariants.{Run, Update, Advance}
-use Rattle.vmodel.specs.declared.process.Frame.{Frame}
+use Rattle.vmodel.specs.declared.frame.Frame.{Frame}
 use Rattle.vdesign.specs.declared.action.Action.{Action}
 use Rattle.vmodel.specs.State.{State}
 use Rattle.vmodel.specs.Step.{Transition, StepResult, place_of, continuation_of, held_of, environment_of, execute_at, with_step, with_woken, with_update, with_advance, with_moves_by, action_transition, continuation_transition, transition_of, transition_by, next, idle_items, slot_end_by, slot_end_of, shown_items, strobe_items, before_end, items_of}

@@ -1,15 +1,12 @@
 -- *internal*: How the program keeps what the definitions see as lists: words for the contracts of parts within.
-use Rattle.std.specs.Prelude.{◌≡◌, ◌==◌, ℕ, zero, suc, ◌+◌, if◌then◌else◌, nat_lt, List, [], ◌∷◌, Option, Some, None}
+use Rattle.std.specs.Prelude.{◌==◌, ℕ, zero, suc, ◌+◌, if◌then◌else◌, nat_lt, List, [], ◌∷◌, Option, Some, None}
 use Rattle.vmodel.specs.declared.part.Part.{Part}
 use Rattle.vmodel.specs.declared.part.Part.TheVariants.{Whole, Bits}
 use Rattle.vbits.specs.Vectors.{Vector}
 use Rattle.vmodel.specs.Parts.{with_bits}
 use Rattle.vmodel.specs.declared.part.Kept.{Kept}
 use Rattle.vmodel.specs.declared.part.Kept.TheVariants.{One, Many}
-use Rattle.std.specs.Prelude.{slice_get}
-use Rattle.std.specs.Borrow.{Bor}
-use Rattle.vdesign.specs.declared.action.Action.{Action}
-use Rattle.vmodel.specs.declared.process.Frame.{Frame}
+use Rattle.vmodel.specs.declared.frame.Frame.{Frame}
 use Rattle.vmodel.specs.Queue.{Later, Queue}
 use Rattle.vmodel.specs.Step.{place_of}
 use Rattle.vmodel.specs.declared.choice.Choice.{Choice}
@@ -79,13 +76,3 @@ with_some_held (Some c) held = with_one_held c held
 abbrev pub first_place : List Frame → Option ℕ
 first_place [] = None
 first_place (frame ∷ after) = Some (place_of frame)
-
--- the action there
-abbrev pub first_action : List Action → List Frame → Option Action
-first_action actions [] = None
-first_action actions (frame ∷ after) = slice_get actions (place_of frame)
-
--- the first of the frames and the action at its place, or none where either is missing
-abbrev pub IsFirstAction : List Action → List Frame → Option (Frame × Bor Action) → Type 0
-IsFirstAction actions continuation None = first_action actions continuation ≡ None
-IsFirstAction actions continuation (Some found) = (slice_get continuation 0 ≡ Some found.0) × (first_action actions continuation ≡ Some found.1.now)

@@ -1,7 +1,7 @@
 -- *internal*: What every state of a run keeps, under every log (docs/SCHEDULING.md): it is proved of all of them.
 use Rattle.std.specs.Prelude.{◌≡◌, ℕ, suc, ◌+◌, ◌≤◌, ◌==◌, if◌then◌else◌, List, [], ◌∷◌, length, slice_get, Option, Some, None}
 use Rattle.std.specs.Option.{ForSome}
-use Rattle.vmodel.specs.declared.process.Frame.{Frame}
+use Rattle.vmodel.specs.declared.frame.Frame.{Frame}
 use Rattle.vmodel.specs.Queue.{Later, Queue}
 use Rattle.vmodel.specs.State.{Process, State}
 use Rattle.vmodel.specs.Holding.{release}

@@ -21,11 +21,8 @@ pub mod Run
 pub mod RunProgress
 pub mod SlotEnds
 pub mod Kept
-pub mod RunLaws
-pub mod PartLaws
 pub mod RulesLaws
 pub mod Inner
-pub mod InnerContinuation
 pub mod InnerStep
 pub mod InnerSilent
 pub mod Touched

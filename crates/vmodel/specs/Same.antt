@@ -9,8 +9,8 @@ use Rattle.sched_core.specs.Ends.{cause_same}
 use Rattle.sched_core.specs.Settings.{grain_same}
 use Rattle.vmodel.specs.declared.part.Part.{Part}
 use Rattle.vmodel.specs.declared.part.Part.TheVariants.{Whole, Bits}
-use Rattle.vmodel.specs.declared.process.Frame.{Frame}
-use Rattle.vmodel.specs.declared.process.Frame.TheVariants.{Executing, Repeating, Writing}
+use Rattle.vmodel.specs.declared.frame.Frame.{Frame}
+use Rattle.vmodel.specs.declared.frame.Frame.TheVariants.{Executing, Repeating, Writing}
 use Rattle.vmodel.specs.Queue.{Later, Queue}
 use Rattle.vmodel.specs.State.{Process, State}
 

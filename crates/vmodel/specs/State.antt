@@ -5,7 +5,7 @@ use Rattle.std.specs.Prelude.{ℕ, List, [], Option}
 use Rattle.vbits.specs.Vectors.{Vector}
 use Rattle.vmodel.specs.Queue.{Queue}
 use Rattle.sched_core.specs.declared.end.Cause.{Cause}
-use Rattle.vmodel.specs.declared.process.Frame.{Frame}
+use Rattle.vmodel.specs.declared.frame.Frame.{Frame}
 
 -- what a process stands at (11.2)
 pub record Process : Type 0 where

@@ -3,7 +3,7 @@
 ghost use Rattle.std.specs.Prelude.{◌≡◌, [], ℕ, List, cond, IfOk, OnOk, option_map};
 ghost use Rattle.std.specs.Option.{ForSome};
 ghost use Rattle.vvalue.specs.Value.{delay_of as delay_at};
-ghost use Rattle.vmodel.specs.declared.process.Frame.{Frame};
+ghost use Rattle.vmodel.specs.declared.frame.Frame.{Frame};
 ghost use Rattle.vmodel.specs.Effects.{no_effect};
 ghost use Rattle.vmodel.specs.Inner.{kept_parts};
 ghost use Rattle.vmodel.specs.Step as spec;
@@ -12,8 +12,8 @@ ghost use Rattle.vmodel.specs.Value.{resumed_parts as resumed_at};
 ghost use Rattle.vmodel.specs.Step.{execute, execute_at};
 ghost use Rattle.vmodel.specs.InnerStep.{wait_result, behind, step_result, effect_of_end, while_result};
 
+use crate::frame::Frame;
 use crate::part::{Kept, Parts};
-use crate::process::Frame;
 use crate::value::{given_parts, held_value, resumed_parts};
 use basis::NoMemory;
 use sched_core::end::Cause;
@@ -40,10 +40,15 @@ pub enum Disposition {
 }
 
 /// An update that a step posts, for so much later, in units of the precision (9.7.7, 11.4).
-#[derive(Drop)]
 pub struct Post {
     pub after: u128,
     pub parts: Parts,
+}
+
+impl Drop for Post {
+    fn drop(self) {
+        let Post { after: _, parts: _ } = self;
+    }
 }
 
 /// What a step shows at once.
@@ -59,7 +64,7 @@ pub enum Shown {
 
 /// The forms of effects: a step does one of these things, beside what its process has left.
 #[derive(Drop)]
-pub(crate) enum Form {
+pub enum Form {
     /// It only goes on.
     Nothing,
     /// It writes these parts, from left to right (6.2).
@@ -83,9 +88,15 @@ pub(crate) enum Form {
 }
 
 /// What a step does, beside what its process has left. A clause sees it as the record `Effect` of specs/Effects.antt.
-#[derive(Drop)]
 pub struct Effect {
-    pub(crate) form: Form,
+    /// Which of the forms it has: a queue goes by it, since that is quicker than to ask for each field.
+    pub form: Form,
+}
+
+impl Drop for Effect {
+    fn drop(self) {
+        let Effect { form: _ } = self;
+    }
 }
 
 impl Model for Effect {
@@ -346,7 +357,7 @@ fn comes_again<'d>(place: usize, next: &'d [usize]) -> Course<'d>
 }
 
 // A `repeat` with so many turns left, where one is left (9.6).
-#[tactic(auto, using(crate::proofs::ContinuationLemmas::turning_left, crate::proofs::ContinuationLemmas::turning_done))]
+#[tactic(auto, using(crate::proofs::TurnLemmas::turning_left, crate::proofs::TurnLemmas::turning_done))]
 fn frame_of_turns(place: usize, turns: u64) -> Option<Frame>
     ensures { (after : List Frame) → spec.turns_left place turns after ≡ behind result after }
 {

@@ -22,11 +22,20 @@ pub enum Item {
 }
 
 /// A whole run that has ended. A clause sees it as the record `History` of specs/History.antt.
-#[derive(Drop)]
 pub struct History {
     pub items: Vec<Item>,
     pub end: End,
     pub values: Values,
+}
+
+impl Drop for History {
+    fn drop(self) {
+        let History {
+            items: _,
+            end: _,
+            values: _,
+        } = self;
+    }
 }
 
 impl Model for History {

@@ -24,18 +24,6 @@ pub struct Change {
     pub new: Vec4,
 }
 
-/// What a step changes.
-#[derive(Clone, Copy)]
-pub(crate) enum Changes<'c> {
-    /// One variable.
-    One(Change),
-    /// What these parts write over these values.
-    Many {
-        values: &'c [Vec4],
-        parts: &'c [Part],
-    },
-}
-
 // A vector with these letters from a place on; where it has not so many nothing is written.
 fn with_bits(old: Vec4, low: u32, value: Vec4) -> Vec4
     ensures { result ≡ spec.with_bits old low value }
@@ -93,9 +81,14 @@ pub fn value_after(values: &[Vec4], parts: &[Part], variable: u32) -> Vec4
 }
 
 /// The values of all variables. A clause sees them as their list.
-#[derive(Drop)]
 pub struct Values {
     list: Vec<Vec4>,
+}
+
+impl Drop for Values {
+    fn drop(self) {
+        let Values { list: _ } = self;
+    }
 }
 
 impl Model for Values {
@@ -216,7 +209,7 @@ impl Values {
     }
 
     /// Writes one part; a part of no variable writes nothing. The answer is what changed.
-    pub(crate) fn write(&mut self, part: Part) -> Option<Change>
+    pub fn write(&mut self, part: Part) -> Option<Change>
         ensures values { self.new ≡ spec.write part self.old }
         ensures change { IsChange result self.old self.new }
         ensures variable { IfSome result (λ c. c.variable ≡ variable_of part) }
@@ -244,7 +237,7 @@ impl Values {
     }
 
     /// Writes the parts from left to right.
-    pub(crate) fn write_all(&mut self, parts: &[Part])
+    pub fn write_all(&mut self, parts: &[Part])
         ensures { self.new ≡ spec.with_parts parts.now self.old }
     {
         for part in parts {

@@ -8,7 +8,7 @@ use Rattle.std.specs.Cmp.Lexicographic.{nat_list_eq_equiv}
 use Rattle.std.proofs.lemmas.List.{map-append, drop_all}
 use Rattle.std.proofs.lemmas.Option.{same_Some}
 use Rattle.basis.proofs.Lists.{drop_at_place}
-use Rattle.vast.specs.Words.{Text}
+use Rattle.vwords.specs.Words.{Text}
 use Rattle.vast.specs.NumberedWords.{Word}
 use Rattle.vast.specs.NumberedExpressions.{ExpressionTree}
 use Rattle.vast.specs.NumberedTrees.{tree_of}

@@ -4,7 +4,7 @@ use Rattle.std.specs.Option.{option_or}
 use Rattle.basis.specs.Reasons.{IfFault}
 use Rattle.basis.specs.declared.memory.OrMemory.{OrMemory}
 use Rattle.basis.specs.declared.memory.OrMemory.TheVariants.{Fault, Memory}
-use Rattle.vast.specs.Words.{Text}
+use Rattle.vwords.specs.Words.{Text}
 use Rattle.vast.specs.NumberedWords.{Word, word_of}
 use Rattle.vast.specs.NumberedModules.{DirectionTree}
 use Rattle.vast.specs.NumberedTrees.{module_tree, port_tree}

@@ -1,7 +1,7 @@
 -- A loop over a list that builds another: what was done and what is left to do make the whole. And faults that `?` hands on.
 use Rattle.std.proofs.Common.{◌≡◌, ◌<◌, ◌≤◌, ℕ, zero, suc, ◌+◌, arith, true, false, List, [], ◌∷◌, ◌++◌, Option, None, Some, is_some, option_map, refl, length, drop, get_or, Result, Ok, Err, IsErrAnd, sym, ap, subst, ◌∙◌, append_assoc}
 use Rattle.basis.proofs.Lists.{left_from}
-use Rattle.vast.specs.Words.{Text}
+use Rattle.vwords.specs.Words.{Text}
 use Rattle.std.specs.Option.{option_or}
 use Rattle.std.proofs.lemmas.List.{map-append, drop_all}
 use Rattle.vast.specs.NumberedWords.{Word}

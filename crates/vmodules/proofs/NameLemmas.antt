@@ -6,7 +6,7 @@ use Rattle.std.specs.Cmp.Lexicographic.{nat_list_eq_equiv}
 use Rattle.std.proofs.lemmas.List.{length-map, map-append}
 use Rattle.std.proofs.lemmas.List.Folds.{list_any-append}
 use Rattle.basis.proofs.Bools.{or_second, or_left, or_right}
-use Rattle.vast.specs.Words.{Text}
+use Rattle.vwords.specs.Words.{Text}
 use Rattle.std.specs.Option.{option_or}
 use Rattle.vast.specs.NumberedWords.{Word}
 use Rattle.vmodules.specs.Names.{is_declared, has_double, letters_of, again_behind}

@@ -4,7 +4,7 @@ use Rattle.std.specs.Prelude.{◌≡◌, ℕ, ◌++◌, List, [], ◌∷◌, map
 use Rattle.std.specs.Borrow.{Bor}
 use Rattle.std.specs.List.{flat_map, find}
 use Rattle.std.specs.Option.{option_or}
-use Rattle.vast.specs.Words.{Text}
+use Rattle.vwords.specs.Words.{Text}
 use Rattle.vast.specs.NumberedWords.{Word, word_of}
 use Rattle.vast.specs.NumberedExpressions.{ExpressionTree}
 use Rattle.vast.specs.NumberedTrees.{tree_of, declared_tree, instance_tree}

@@ -1,7 +1,7 @@
 -- *trusted*: The scopes that print tasks stand in (IEEE 1364-2005, 9.8.3, 12.5, 12.7, 17.1.1.6): that of the instance, or that of the named block
 -- round them. A string that a task prints has the path of its scope, which `%m` shows.
 use Rattle.std.specs.Prelude.{List, ◌∷◌, ◌++◌, map, Option, None, Some}
-use Rattle.vast.specs.Words.{Text}
+use Rattle.vwords.specs.Words.{Text}
 use Rattle.vast.specs.NumberedWords.{Word}
 use Rattle.vast.specs.NumberedStatements.{ArgumentTree, quoted, printed, left_out, TaskTree, print, idle, dump_file, dump_vars, dump, end_run, StatementTree, StatementTrees, empty, block, assign, nonblocking, trigger, if_true, if_else, case_of, while_true, repeat_times, forever, for_loop, wait_for, delay, event, task, no_statement, first_statement, BranchTree, BranchTrees, labelled, default, no_branch, first_branch}
 use Rattle.vast.specs.NumberedModules.{ItemTree, parameters, declaration, events, assignments, initial, always, instances, ModuleTree}

@@ -2,12 +2,12 @@
 
 ghost use Rattle.std.specs.Prelude.{◌≡◌};
 ghost use Rattle.vast.specs.TokenTexts.{token_text};
-ghost use Rattle.vast.specs.Words.{without_backslash as unescaped_text};
+ghost use Rattle.vwords.specs.Words.{without_backslash as unescaped_text};
 ghost use Rattle.vexpr_parse.specs.Texts.{words_of};
 
 use vast::token::Token;
-use vast::words::without_backslash;
 use vlex::Tokens;
+use vwords::words::without_backslash;
 
 /// The letters of a token; none, where there are fewer tokens.
 pub fn letters<'t>(tokens: &Tokens<'t>, token: Token) -> &'t [u8]

@@ -1,6 +1,6 @@
 -- What a connection is made of.
 use Rattle.std.proofs.Common.{◌≡◌, Box, List, Option, None, Some, option_map, refl}
-use Rattle.vast.specs.Words.{Text}
+use Rattle.vwords.specs.Words.{Text}
 use Rattle.vast.specs.ExpressionTrees.{boxed_tree}
 use Rattle.vast.specs.Modules.{ConnectionTree}
 use Rattle.vast.specs.declared.expression.Expression.{Expression}

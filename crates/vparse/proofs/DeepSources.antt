@@ -1,7 +1,7 @@
 -- So of statements, of modules and of a whole text: a word that is refused for want of levels stands inside the profile.
 use Rattle.std.proofs.Common.{◌≡◌, ℕ, zero, suc, Bool, true, false, ◌||◌, not, if◌then◌else◌, List, [], ◌∷◌, Option, None, Some, codes, refl, subst}
 use Rattle.std.specs.Str.{bytes_eq}
-use Rattle.vast.specs.Words.{Text, is_name, is_number, is_string, reserved_words}
+use Rattle.vwords.specs.Words.{Text, is_name, is_number, is_string, reserved_words}
 use Rattle.vast.specs.Statements.{TargetTree, StatementTree, BranchTree, empty, forever}
 use Rattle.vast.specs.Modules.{PortTree}
 use Rattle.vast.specs.declared.statement.Printing.TheVariants as printing

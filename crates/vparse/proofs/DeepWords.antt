@@ -5,11 +5,11 @@ use Rattle.std.specs.Str.{bytes_eq}
 use Rattle.std.proofs.lemmas.Bool.Decides.{nat_tests}
 use Rattle.basis.proofs.Bools.{and_left, and_right}
 use Rattle.basis.specs.Letters.{begins_name}
-use Rattle.vast.specs.Words.{Text, is_name, is_number, is_reserved, reserved_words}
+use Rattle.vwords.specs.Words.{Text, is_name, is_number, is_reserved, reserved_words}
 use Rattle.vast.specs.Expressions.{ExpressionTree, number, name, time, bit, part, parentheses, conversion, apply, combine, conditional, concatenation, replication, unary_word, binary_word, depth, rank, unary_rank}
-use Rattle.vast.specs.declared.expression.BinaryOperator.{BinaryOperator}
-use Rattle.vast.specs.declared.expression.UnaryOperator.{UnaryOperator}
-use Rattle.vast.proofs.NameLemmas.{simple_or_escaped, name_not_reserved}
+use Rattle.vwords.specs.declared.operators.BinaryOperator.{BinaryOperator}
+use Rattle.vwords.specs.declared.operators.UnaryOperator.{UnaryOperator}
+use Rattle.vwords.proofs.NameLemmas.{simple_or_escaped, name_not_reserved}
 use Rattle.vexpr_parse.specs.declared.beginning.Beginning.{Beginning}
 use Rattle.vexpr_parse.specs.declared.beginning.Beginning.TheVariants as start
 use Rattle.vexpr_parse.specs.declared.beginning.Round.{Round}

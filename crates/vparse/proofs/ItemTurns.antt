@@ -1,6 +1,6 @@
 -- What the loops over items and over modules go on from.
 use Rattle.std.proofs.Common.{◌≡◌, Bool, true, false, not, List, [], ◌∷◌, ◌++◌, Option, codes, map, refl, sym, ◌∙◌, zero-lt-suc}
-use Rattle.vast.specs.Words.{Text}
+use Rattle.vwords.specs.Words.{Text}
 use Rattle.vast.specs.Modules.{ItemTree, ModuleTree}
 use Rattle.vast.specs.ModuleTrees.{item_tree, module_tree}
 use Rattle.vast.specs.declared.module.ModuleItem.{ModuleItem}

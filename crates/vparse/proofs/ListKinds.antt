@@ -1,7 +1,7 @@
 -- What stands in the lists of modules leaves fewer words where it is read.
 use Rattle.std.proofs.Common.{◌≡◌, ℕ, ◌<◌, ◌≤◌, Option, None, Some, List, [], ◌++◌, length, codes, arith, zero-lt-suc}
 use Rattle.basis.proofs.Lists.{longer}
-use Rattle.vast.specs.Words.{Text, is_name}
+use Rattle.vwords.specs.Words.{Text, is_name}
 use Rattle.vast.specs.TokenTexts.{token_text}
 use Rattle.vast.specs.Expressions.{ExpressionTree}
 use Rattle.vast.specs.ExpressionTrees.{tree_of}

@@ -5,7 +5,7 @@ use Rattle.std.specs.Str.{bytes_eq}
 use Rattle.std.specs.Borrow.{MutBor}
 use Rattle.basis.specs.declared.memory.OrMemory.{OrMemory}
 use Rattle.basis.specs.declared.memory.OrMemory.TheVariants.{Fault, Memory}
-use Rattle.vast.specs.Words.{Text}
+use Rattle.vwords.specs.Words.{Text}
 use Rattle.vlex.specs.Tokenized.{Tokenized}
 use Rattle.vexpr_parse.specs.declared.cursor.Cursor.{Cursor}
 use Rattle.vexpr_parse.specs.declared.stop.Stop.{Stop}

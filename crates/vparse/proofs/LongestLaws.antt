@@ -5,7 +5,7 @@ use Rattle.std.proofs.lemmas.List.{length-append, length-drop, length-map, take-
 use Rattle.vsrc.specs.Source.{place_of}
 use Rattle.vsrc.specs.declared.expanded.Place.{Place}
 use Rattle.vlex.specs.Tokenized.{Tokenized, pieces_of, start_of}
-use Rattle.vast.specs.Words.{Text}
+use Rattle.vwords.specs.Words.{Text}
 use Rattle.vast.specs.ExpressionTrees.{tree_of}
 use Rattle.vast.specs.declared.expression.Expression.{Expression}
 use Rattle.vast.specs.Leaves.{leaves_of}

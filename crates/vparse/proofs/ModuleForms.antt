@@ -1,7 +1,7 @@
 -- Each definition of a part of modules, in the order in which its parts are read.
 use Rattle.std.proofs.Common.{◌≡◌, Bool, true, false, if◌then◌else◌, List, [], ◌∷◌, Option, None, Some, codes, refl, sym, ap, ◌∙◌}
 use Rattle.std.specs.Str.{bytes_eq}
-use Rattle.vast.specs.Words.{Text}
+use Rattle.vwords.specs.Words.{Text}
 use Rattle.vast.specs.Statements.{StatementTree}
 use Rattle.vast.specs.Expressions.{ExpressionTree}
 use Rattle.vast.specs.Modules.{HeadParameter, SettingTree, DeclaredTree, integer, typed, ConnectionTree, ConnectionsTree, initial, always, PortTree, by_order, by_name, ItemTree, parameters, declaration, variables, integers, directed, DirectionTree, output_integer, events, assignments, instances, ModuleTree, NetAssignment}

@@ -1,6 +1,6 @@
 -- Reserved words of modules, which no tree keeps.
 use Rattle.std.proofs.Common.{◌≡◌, false, codes, refl}
-use Rattle.vast.specs.Words.{is_leaf, reserved_words}
+use Rattle.vwords.specs.Words.{is_leaf, reserved_words}
 
 pub signed_plain : is_leaf (codes "signed") ≡ false
 unfolding reserved_words

@@ -5,7 +5,7 @@ use Rattle.std.proofs.lemmas.List.{length-append, length-map, drop_at}
 use Rattle.vsrc.specs.Source.{place_of}
 use Rattle.vsrc.specs.declared.expanded.Place.{Place}
 use Rattle.vlex.specs.Tokenized.{Tokenized, pieces_of, start_of}
-use Rattle.vast.specs.Words.{Text}
+use Rattle.vwords.specs.Words.{Text}
 use Rattle.vast.specs.Modules.{SourceTree, DerivesText}
 use Rattle.vast.specs.ModuleTrees.{module_tree}
 use Rattle.vast.specs.declared.module.ModuleTree.{ModuleTree as ModuleWords}

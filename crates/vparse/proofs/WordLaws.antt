@@ -20,8 +20,8 @@ use Rattle.vlex.proofs.Cuts.{seen_front}
 use Rattle.vlex.proofs.Instances.{all_words}
 use Rattle.vlex.proofs.Leads.{Says, says}
 use Rattle.basis.specs.Letters.{begins_name, is_in_name}
-use Rattle.vast.specs.Words.{Text, is_name, is_number, is_reserved, is_printable, are_printable}
-use Rattle.vast.proofs.NameLemmas.{escaped_free}
+use Rattle.vwords.specs.Words.{Text, is_name, is_number, is_reserved, is_printable, are_printable}
+use Rattle.vwords.proofs.NameLemmas.{escaped_free}
 use Rattle.basis.proofs.Bools.{and_left, and_right, and_both}
 use Rattle.std.specs.Char.{is_ascii_digit}
 use Rattle.vparse.specs.Words.{TellsNumber, TellsName}

@@ -3,7 +3,7 @@ use Rattle.std.specs.Prelude.{◌≡◌, ℕ, ◌≤◌, true, false, List, ◌+
 use Rattle.vsrc.specs.Source.{place_of}
 use Rattle.vsrc.specs.declared.expanded.Place.{Place}
 use Rattle.vlex.specs.Tokenized.{Tokenized, start_of}
-use Rattle.vast.specs.Words.{Text}
+use Rattle.vwords.specs.Words.{Text}
 use Rattle.vast.specs.ExpressionTrees.{tree_of}
 use Rattle.vast.specs.Leaves.{leaves_of}
 use Rattle.vast.specs.TokenTexts.{leaves_from}

@@ -5,7 +5,7 @@ use Rattle.std.specs.List.{flat_map}
 use Rattle.basis.specs.declared.memory.OrMemory.{OrMemory}
 use Rattle.basis.specs.declared.memory.OrMemory.TheVariants.{Fault}
 use Rattle.basis.specs.Reasons.{Because}
-use Rattle.vast.specs.Words.{Text}
+use Rattle.vwords.specs.Words.{Text}
 use Rattle.vast.specs.Expressions.{ExpressionTree}
 use Rattle.vast.specs.ExpressionTrees.{boxed_tree}
 use Rattle.vast.specs.Modules.{RangeTree, ParameterType, integer, typed, DirectionTree, output, output_integer, PortTree, HeadParameter, ConnectionsTree, by_order, by_name, variables, integers, directed, ItemTree, parameters, declaration, events, assignments, initial, always, instances, ModuleTree}

@@ -3,7 +3,7 @@
 use Rattle.std.specs.Prelude.{Bool, false, ◌&&◌, ◌||◌, ◌==◌, not, List, [], ◌∷◌, Option, None, Some, codes}
 use Rattle.std.specs.List.{list_any}
 use Rattle.std.specs.Str.{bytes_eq}
-use Rattle.vast.specs.Words.{Text, is_reserved}
+use Rattle.vwords.specs.Words.{Text, is_reserved}
 
 -- the reserved words that the grammar names
 unfoldable pub keywords : List Text

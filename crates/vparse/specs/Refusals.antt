@@ -3,7 +3,7 @@ use Rattle.std.specs.Prelude.{◌≡◌, ℕ, ◌≤◌, Bool, true, false, List
 use Rattle.vsrc.specs.Source.{place_of}
 use Rattle.vsrc.specs.declared.expanded.Place.{Place}
 use Rattle.vlex.specs.Tokenized.{Tokenized, start_of}
-use Rattle.vast.specs.Words.{Text}
+use Rattle.vwords.specs.Words.{Text}
 use Rattle.vast.specs.Modules.{SourceTree, DerivesText}
 use Rattle.vexpr_parse.specs.Texts.{words_of}
 use Rattle.vgrammar.specs.SourcePlaces.{IsPlace, IsRefused, IsDeeper}

@@ -2,7 +2,7 @@
 use Rattle.std.specs.Prelude.{◌≡◌, ◌⊎◌, ◌↔◌, IsTrue, false}
 use Rattle.vlex.specs.declared.kind.TokenKind.TheVariants.{Name, Plain, Based}
 use Rattle.vlex.specs.Lexed.{Piece}
-use Rattle.vast.specs.Words.{is_number, is_name, is_reserved}
+use Rattle.vwords.specs.Words.{is_number, is_name, is_reserved}
 
 -- a token's word is a number exactly where its kind is one of numbers (3.5.1)
 abbrev pub TellsNumber : Piece → Type 0

@@ -1,7 +1,7 @@
 // Lists with commas.
 
 ghost use Rattle.std.specs.Prelude.{◌≡◌, false, length};
-ghost use Rattle.vast.specs.Words.{is_leaf};
+ghost use Rattle.vwords.specs.Words.{is_leaf};
 ghost use Rattle.vparse.specs.ModuleGives.{KeepsListed, Lists, ListsUntil, NeverMore};
 
 use basis::OrMemory;

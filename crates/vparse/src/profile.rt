@@ -3,7 +3,7 @@
 ghost use Rattle.std.specs.Prelude.{◌≡◌};
 ghost use Rattle.vparse.specs.Profile.{keywords, system_names, left_out, is_among as is_among_texts, is_system as is_system_text, is_outside as is_outside_text};
 
-use vast::words::{is_among, is_reserved};
+use vwords::words::{is_among, is_reserved};
 
 static KEYWORDS: [&[u8]; 32] = [
     b"always",

@@ -1,7 +1,7 @@
 // Types of parameters, ports, nets and variables (IEEE 1364-2005, 4.2, 4.3 and 4.10).
 
 ghost use Rattle.std.specs.Prelude.{◌≡◌, ◌<◌, false, codes, IfOk};
-ghost use Rattle.vast.specs.Words.{is_leaf};
+ghost use Rattle.vwords.specs.Words.{is_leaf};
 ghost use Rattle.vast.specs.Leaves.{if_some, range_leaves, type_leaves, parameter_type_leaves};
 ghost use Rattle.vast.specs.ModuleTrees.{range_tree, type_tree, parameter_type};
 ghost use Rattle.vexpr_parse.specs.Answers.{Keeps, leaves_ahead};

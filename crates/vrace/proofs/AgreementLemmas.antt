@@ -2,7 +2,7 @@
 use Rattle.std.proofs.Common.{◌≡◌, ℕ, List, Option, sym, subst, ◌∙◌}
 use Rattle.vsrc.specs.Expansion.{expanded_text, expanded_timescale}
 use Rattle.vmodel.specs.Run.{Setting}
-use Rattle.vmodel.specs.RunLaws.{holding, of_values}
+use Rattle.plain_steps.specs.RunLaws.{holding, of_values}
 use Rattle.vreport.specs.Agreement.{ExhaustedAgree, HoldingListsAll, LinesRefine}
 use Rattle.vreport.specs.Reports.{IsExploration}
 use Rattle.vrace.specs.Request.{Request}

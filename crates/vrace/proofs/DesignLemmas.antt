@@ -6,7 +6,7 @@ use Rattle.vsrc.specs.declared.expanded.Place.{Place}
 use Rattle.vsrc.specs.Expansion.{expansion}
 use Rattle.vsrc.specs.declared.fault.SrcFault.{SrcFault}
 use Rattle.vlex.specs.Tokenized.{Tokenized, pieces_of, start_of}
-use Rattle.vast.specs.Words.{Text}
+use Rattle.vwords.specs.Words.{Text}
 use Rattle.vast.specs.Modules.{DerivesText}
 use Rattle.vast.specs.ModuleTrees.{source_tree}
 use Rattle.vast.specs.TokenTexts.{leaves_from}

@@ -5,7 +5,7 @@ use Rattle.basis.specs.declared.timescale.Timescale.{Timescale}
 use Rattle.vsrc.specs.Expansion.{expansion, text_of, expanded_text, expanded_timescale}
 use Rattle.vsrc.specs.declared.fault.SrcFault.{SrcFault}
 use Rattle.vlex.specs.Laws.{CutsOneWay}
-use Rattle.vast.specs.Words.{Text}
+use Rattle.vwords.specs.Words.{Text}
 use Rattle.vast.specs.Modules.{DerivesText}
 use Rattle.vast.specs.NumberedModules.{SourceTree}
 use Rattle.vast.specs.NumberedTexts.{IsNumbered}

@@ -4,7 +4,7 @@ use Rattle.vsrc.specs.Source.{Source}
 use Rattle.vsrc.specs.Expansion.{expansion}
 use Rattle.vsrc.specs.declared.expanded.Place.{Place}
 use Rattle.vlex.specs.Tokenized.{Tokenized}
-use Rattle.vast.specs.Words.{Text}
+use Rattle.vwords.specs.Words.{Text}
 use Rattle.vast.specs.NumberedModules.{SourceTree}
 use Rattle.vexpr_parse.specs.Texts.{words_of}
 use Rattle.action_origins.specs.Origins.{design_origins}

@@ -5,7 +5,7 @@ use Rattle.vsrc.specs.Source.{Source}
 use Rattle.vsrc.specs.Expansion.{expansion, expanded_text, expanded_timescale}
 use Rattle.vlex.specs.Lexed.{Lexed, Piece}
 use Rattle.vlex.specs.Tokenized.{Tokenized, pieces_of, AreWordSpans}
-use Rattle.vast.specs.Words.{Text}
+use Rattle.vwords.specs.Words.{Text}
 use Rattle.vast.specs.Modules.{DerivesText, SourceTree as PlainTree}
 use Rattle.vast.specs.NumberedModules.{SourceTree}
 use Rattle.vast.specs.NumberedTexts.{IsNumbered}

@@ -22,11 +22,20 @@ use vmachine::Machine;
 use vreport::{Budget, entry_bytes};
 
 /// The races of files, the machine whose runs differ so, and where the statements of its design begin.
-#[derive(Drop)]
 pub struct FoundRaces {
     pub machine: Machine,
     pub origins: Origins,
     pub races: Races,
+}
+
+impl Drop for FoundRaces {
+    fn drop(self) {
+        let FoundRaces {
+            machine: _,
+            origins: _,
+            races: _,
+        } = self;
+    }
 }
 
 /// Explores the files by time, within a budget, on the caller's own thread: every run of at most `options.limits.depart` departures from

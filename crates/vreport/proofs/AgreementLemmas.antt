@@ -16,7 +16,7 @@ use Rattle.vmodel.specs.SlotEnds.{IsIdle, IsSlotEnd}
 use Rattle.vmodel.specs.Queue.{Queue}
 use Rattle.vmodel.specs.State.{State}
 use Rattle.vmodel.specs.Run.{Setting, cause_of, rules_of, state_after}
-use Rattle.vmodel.specs.RunLaws.{HoldingEndsToo, LinesChangeNoRun, TakingIsHolding, holding, of_values}
+use Rattle.plain_steps.specs.RunLaws.{HoldingEndsToo, LinesChangeNoRun, TakingIsHolding, holding, of_values}
 use Rattle.vmodel.specs.RunProgress.{width_is}
 use Rattle.racebook.specs.LineRaces as lines
 use Rattle.racebook.specs.Races as found

@@ -6,7 +6,7 @@ use Rattle.basis.proofs.Lists.{listed_place, of_mapped}
 use Rattle.statebook.specs.declared.limits.Limits.{Limits}
 use Rattle.vbits.specs.Vectors.{Vector}
 use Rattle.vdesign.specs.Design.{Variable}
-use Rattle.vast.specs.Names.{has_letters_of_name, is_path}
+use Rattle.vwords.specs.Names.{has_letters_of_name, is_path}
 use Rattle.vdesign.specs.Named.{AreNamed}
 use Rattle.vmodel.specs.Kept.{AreShaped, HasShape}
 use Rattle.vmodel.specs.Run.{Setting, state_after}

@@ -5,7 +5,7 @@ use Rattle.statebook.specs.declared.limits.Limits.{Limits}
 use Rattle.sched_core.specs.declared.end.Cause.{Cause}
 use Rattle.sched_core.specs.declared.setting.Departures.TheVariants.{Taking}
 use Rattle.vmodel.specs.Run.{Setting}
-use Rattle.vmodel.specs.RunLaws.{holding, of_values}
+use Rattle.plain_steps.specs.RunLaws.{holding, of_values}
 use Rattle.report_text.specs.declared.report.Outcome.TheVariants.{Exhausted}
 use Rattle.report_text.specs.Report.{End, LineRace, Race, Report}
 use Rattle.vreport.specs.Reports.{IsExploration}

@@ -16,12 +16,12 @@ use crate::marks::Marks;
 use crate::row::{Row, cause_of, copy_printed, rows_in_order};
 use basis::OrMemory;
 use byte_sinks::{Counter, HELD_BYTES, HeldText, TooMany};
+use plain_steps::run_law;
 use report_text::End;
 use sched_core::Log;
 use statebook::Limits;
 use std::alloc::Global;
 use vmachine::{Machine, machine_law};
-use vmodel::run_law;
 
 // How many bytes the dump of the run has.
 fn dump_len(

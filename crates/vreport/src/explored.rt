@@ -21,11 +21,20 @@ use workpool::Gate;
 
 /// The report of an exploration, how that went, and of each end the dump, where it is held. A status that says that memory
 /// was refused holds what only a refused growth makes.
-#[derive(Drop)]
 pub struct Explored {
     pub report: Report,
     pub status: Status,
     pub held: Vec<Option<HeldText>>,
+}
+
+impl Drop for Explored {
+    fn drop(self) {
+        let Explored {
+            report: _,
+            status: _,
+            held: _,
+        } = self;
+    }
 }
 
 // The report of what was found, by whomever.

@@ -7,7 +7,7 @@ ghost use Rattle.vreport.specs.Agreement.{ExhaustedAgree, HoldingListsAll, Lines
 ghost use Rattle.vreport.specs.Formed.{IsTrueWithDumps};
 ghost use Rattle.vreport.specs.Reports.{IsExploration};
 
-use vmodel::run_law;
+use plain_steps::run_law;
 
 /// What an exploration reports is true, with the dumps of its ends: each end and each race is of runs within the limits
 /// that its head names. It does nothing.

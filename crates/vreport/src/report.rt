@@ -19,6 +19,7 @@ use crate::values::text_of_value;
 use basis::{NoMemory, OrMemory};
 use byte_sinks::{HeldText, TooMany};
 use explore::{Findings, Reason, Status};
+use plain_steps::run_law;
 use racebook::{Side, Witness, line_races, races};
 use report_text::{Column, End, LineRace, Outcome, PrintedLines, Race, RaceValue, Report, Version};
 use sched_core::setting::{Departures, Looked};
@@ -26,7 +27,6 @@ use statebook::Limits;
 use std::alloc::Global;
 use vdesign::design::Variable;
 use vmachine::{Machine, MachineState, machine_law};
-use vmodel::run_law;
 
 // The name and the width of each variable.
 fn columns_of(alloc: Global, variables: &[Variable]) -> Result<Vec<Column>, NoMemory>

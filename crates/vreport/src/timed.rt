@@ -39,11 +39,20 @@ pub trait Budget: Watcher {
 
 /// The report of a search that goes by time, how that went and up to which time all was looked at, and of each end the dump,
 /// where it is held.
-#[derive(Drop)]
 pub struct TimedReport {
     pub report: Report,
     pub search: RankedFindings,
     pub held: Vec<Option<HeldText>>,
+}
+
+impl Drop for TimedReport {
+    fn drop(self) {
+        let TimedReport {
+            report: _,
+            search: _,
+            held: _,
+        } = self;
+    }
 }
 
 /// How many bytes an entry of a search is reckoned to take: 24 a variable, 88 a process, and 500 beside.

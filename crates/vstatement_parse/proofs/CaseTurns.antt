@@ -2,14 +2,14 @@
 use Rattle.std.specs.Str.{bytes_eq}
 use Rattle.std.proofs.Common.{◌≡◌, ℕ, zero, suc, ◌<◌, arith, length, Bool, true, false, ◌||◌, Option, Some, None, not, if◌then◌else◌, codes, Result, subst, List, [], ◌∷◌, ◌++◌, map, Box, Vec, Global, refl, sym, ap, ◌∙◌}
 use Rattle.std.proofs.lemmas.List.{map-append}
-use Rattle.vast.specs.Words.{Text, reserved_words}
+use Rattle.vwords.specs.Words.{Text, reserved_words}
 use Rattle.vast.specs.Expressions.{ExpressionTree, spell_parts}
 use Rattle.vast.specs.ExpressionTrees.{tree_of, boxed_tree}
 use Rattle.vast.specs.Statements.{StatementTree, BranchTree, labelled, default, is_default, first_branch, spell_branch, spell_statement, case_of}
 use Rattle.vast.specs.StatementTrees.{statement_tree, branch_tree, branch_trees}
 use Rattle.vast.specs.declared.expression.Expression.{Expression}
 use Rattle.vast.specs.declared.statement.Branch.{Branch as BranchWords, Labelled}
-use Rattle.vast.specs.declared.statement.CaseKind.{CaseKind}
+use Rattle.vwords.specs.declared.cases.CaseKind.{CaseKind}
 use Rattle.vast.specs.declared.statement.Statement.{Statement, Case as CaseWords}
 use Rattle.vast.proofs.WholeTreeLemmas.{tree_of_case}
 use Rattle.basis.specs.declared.memory.OrMemory.{OrMemory}

@@ -2,9 +2,9 @@
 use Rattle.std.specs.Str.{bytes_eq}
 use Rattle.std.proofs.Common.{◌≡◌, Bool, true, false, ◌||◌, if◌then◌else◌, List, [], ◌∷◌, None, Some, codes, refl, ap, subst, ◌∙◌}
 use Rattle.basis.proofs.Bools.{by_if}
-use Rattle.vast.specs.Words.{Text, reserved_words, is_name, is_number, is_string, is_time, is_leaf}
+use Rattle.vwords.specs.Words.{Text, reserved_words, is_name, is_number, is_string, is_time, is_leaf}
 use Rattle.vast.specs.declared.token.Token.{Token}
-use Rattle.vast.specs.declared.statement.CaseKind.TheVariants as case_kind
+use Rattle.vwords.specs.declared.cases.CaseKind.TheVariants as case_kind
 use Rattle.vast.specs.declared.statement.Base.TheVariants as bases
 use Rattle.vast.specs.declared.statement.Printing.TheVariants as printing
 use Rattle.vast.specs.declared.statement.Idle.TheVariants as idles

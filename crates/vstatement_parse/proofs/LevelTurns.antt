@@ -1,7 +1,7 @@
 -- What the code that reads a statement by its first word goes on from.
 use Rattle.std.specs.Str.{bytes_eq}
 use Rattle.std.proofs.Common.{◌≡◌, ◌≢◌, ℕ, zero, suc, ◌-◌, ◌<◌, arith, nat_le, Bool, true, false, if◌then◌else◌, None, codes, Result, subst, List, [], ◌∷◌, length, drop, refl, sym, ap, ◌∙◌}
-use Rattle.vast.specs.Words.{Text}
+use Rattle.vwords.specs.Words.{Text}
 use Rattle.vast.specs.Statements.{StatementTree, task, dump}
 use Rattle.vast.specs.StatementTrees.{statement_tree}
 use Rattle.vast.specs.declared.statement.Dumping.{Dumping}

@@ -1,7 +1,7 @@
 -- What the code that reads printing tasks goes on from.
 use Rattle.std.specs.Str.{bytes_eq}
 use Rattle.std.proofs.Common.{◌≡◌, ℕ, nat_le, Bool, true, false, if◌then◌else◌, Some, None, codes, Result, subst, List, [], ◌∷◌, refl, sym, ap, ◌∙◌}
-use Rattle.vast.specs.Words.{Text, is_string}
+use Rattle.vwords.specs.Words.{Text, is_string}
 use Rattle.vast.specs.Expressions.{ExpressionTree}
 use Rattle.vast.specs.Statements.{StatementTree, ArgumentTree, left_out, task, print, idle}
 use Rattle.vast.specs.StatementTrees.{statement_tree, argument_tree}

@@ -1,6 +1,6 @@
 -- What the code that reads targets goes on from.
 use Rattle.std.proofs.Common.{◌≡◌, ◌≢◌, ℕ, zero, suc, ◌-◌, ◌<◌, arith, length, map, Bool, true, false, List, [], ◌∷◌, ◌++◌, drop, codes, Vec, Global, Result, refl, sym, ap, subst, ◌∙◌}
-use Rattle.vast.specs.Words.{Text, is_name}
+use Rattle.vwords.specs.Words.{Text, is_name}
 use Rattle.std.proofs.lemmas.List.{map-append}
 use Rattle.vast.specs.Statements.{TargetTree, whole, bit, part, joined, first, spell_target}
 use Rattle.vast.specs.StatementTrees.{target_tree, target_row}

@@ -1,7 +1,7 @@
 -- *internal*: What is read of a case: its labels, its branches.
 use Rattle.std.specs.Prelude.{ℕ, Bool, not, List, [], ◌∷◌, Option, Vec, map, codes}
 use Rattle.std.specs.List.{flat_map}
-use Rattle.vast.specs.Words.{Text}
+use Rattle.vwords.specs.Words.{Text}
 use Rattle.vast.specs.Leaves.{leaves_of, branch_leaves}
 use Rattle.vast.specs.declared.token.Token.{Token}
 use Rattle.vast.specs.Expressions.{ExpressionTree}
@@ -10,7 +10,7 @@ use Rattle.vast.specs.Statements.{StatementTree, BranchTree, labelled, case_of}
 use Rattle.vast.specs.StatementTrees.{branch_tree}
 use Rattle.vast.specs.declared.expression.Expression.{Expression}
 use Rattle.vast.specs.declared.statement.Branch.{Branch as BranchWords}
-use Rattle.vast.specs.declared.statement.CaseKind.{CaseKind}
+use Rattle.vwords.specs.declared.cases.CaseKind.{CaseKind}
 use Rattle.vexpr_parse.specs.Readers.{Reader, got, and_then, past, is_front, turns}
 use Rattle.vexpr_parse.specs.Reading.{trees_in}
 use Rattle.vgrammar.specs.Lists.{all_until}

@@ -1,7 +1,7 @@
 -- *internal*: What the program's functions answer that read by the definitions.
 use Rattle.std.specs.Prelude.{◌≡◌, ℕ, Bool, not, List, [], ◌∷◌, ◌++◌, Option, Some, Box, Vec, map, option_map, codes, Result, Ok, Err, IfOk}
 use Rattle.std.specs.List.{flat_map}
-use Rattle.vast.specs.Words.{Text, is_string}
+use Rattle.vwords.specs.Words.{Text, is_string}
 use Rattle.vast.specs.Expressions.{ExpressionTree}
 use Rattle.std.specs.Borrow.{MutBor}
 use Rattle.vast.specs.ExpressionTrees.{boxed_tree}

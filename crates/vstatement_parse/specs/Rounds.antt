@@ -1,6 +1,6 @@
 -- *internal*: What is read of statements round others: of an if, and of a for.
 use Rattle.std.specs.Prelude.{ℕ, List, ◌++◌, Option, option_map, Box, codes}
-use Rattle.vast.specs.Words.{Text}
+use Rattle.vwords.specs.Words.{Text}
 use Rattle.vast.specs.Expressions.{ExpressionTree}
 use Rattle.vast.specs.ExpressionTrees.{boxed_tree}
 use Rattle.vast.specs.Leaves.{boxed_leaves, statement_leaves, if_some}

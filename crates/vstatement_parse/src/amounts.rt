@@ -11,9 +11,9 @@ use crate::values::value_in_parentheses;
 use basis::OrMemory;
 use std::alloc::Global;
 use vast::statement::Delay;
-use vast::words::{is_name, is_number};
 use vexpr_parse::{Cursor, Stop};
 use vlex::Tokens;
+use vwords::words::{is_name, is_number};
 
 /// What stands after `#`.
 #[tactic(auto, using(crate::proofs::LeafWords::number_leaf, crate::proofs::LeafWords::name_leaf))]

@@ -9,16 +9,17 @@ ghost use Rattle.vast.specs.StatementTrees.{statement_tree};
 ghost use Rattle.vstatement_parse.specs.Gives.{Gives, ReadsStatements, KeepsStatements};
 ghost use Rattle.vstatement_parse.specs.Cases.{all_branches, case_at, case_whole, all_branch_leaves};
 ghost use Rattle.vgrammar.specs.Statements as reading;
-ghost use Rattle.vast.specs.Words.{Text};
+ghost use Rattle.vwords.specs.Words.{Text};
 
 use crate::branches::branches_within;
 use crate::values::value as read_value;
 use basis::OrMemory;
 use std::alloc::Global;
 use vast::expression::Expression;
-use vast::statement::{Branch, CaseKind, Statement};
+use vast::statement::{Branch, Statement};
 use vexpr_parse::{Cursor, Stop};
 use vlex::Tokens;
+use vwords::cases::CaseKind;
 
 // The statement of all that was read.
 fn of_branches(at: u32, kind: CaseKind, value: Box<Expression>, branches: Vec<Branch>) -> Statement

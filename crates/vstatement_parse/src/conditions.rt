@@ -9,7 +9,7 @@ ghost use Rattle.vstatement_parse.specs.Gives.{Gives, ReadsStatements, KeepsStat
 ghost use Rattle.vstatement_parse.specs.Rounds.{body_tree, choice_tree, if_at, optional_tree, otherwise_at, body_leaves, choice_leaves};
 ghost use Rattle.vgrammar.specs.Parts.{both};
 ghost use Rattle.vgrammar.specs.Statements as reading;
-ghost use Rattle.vast.specs.Words.{Text};
+ghost use Rattle.vwords.specs.Words.{Text};
 
 use crate::values::value;
 use basis::OrMemory;

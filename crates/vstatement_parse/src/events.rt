@@ -7,7 +7,7 @@ ghost use Rattle.vexpr_parse.specs.Readers.{front};
 ghost use Rattle.vstatement_parse.specs.Gives.{Gives, ReadsStatements, all_further, enclosed_at, event_at, further_terms as further_terms_at, names_tree, terms_at, all_further_leaves, names_leaves, KeepsStatements};
 ghost use Rattle.vgrammar.specs.Parts.{pair};
 ghost use Rattle.vgrammar.specs.Starts.{comma_of, is_meant, is_word};
-ghost use Rattle.vast.specs.Words.{is_name as is_name_text};
+ghost use Rattle.vwords.specs.Words.{is_name as is_name_text};
 ghost use Rattle.vgrammar.specs.Statements as reading;
 ghost use Rattle.vexpr_parse.specs.Answers.{ahead, Keeps};
 
@@ -17,9 +17,9 @@ use crate::words::name_word;
 use basis::OrMemory;
 use std::alloc::Global;
 use vast::statement::{Event, FurtherTerm, Statement, Term};
-use vast::words::is_name;
 use vexpr_parse::{Cursor, Stop};
 use vlex::Tokens;
+use vwords::words::is_name;
 
 /// Names, any of whose changes is waited for.
 #[derive(Drop)]

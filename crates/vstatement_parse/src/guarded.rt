@@ -9,7 +9,7 @@ ghost use Rattle.vstatement_parse.specs.Gives.{Gives, ReadsStatements, delayed_a
 ghost use Rattle.vstatement_parse.specs.Rounds.{body_tree, body_leaves};
 ghost use Rattle.vgrammar.specs.Parts.{both};
 ghost use Rattle.vgrammar.specs.Statements as reading;
-ghost use Rattle.vast.specs.Words.{Text};
+ghost use Rattle.vwords.specs.Words.{Text};
 
 use crate::amounts::amount;
 use crate::conditions::boxed_statement;

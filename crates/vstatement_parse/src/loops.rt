@@ -8,7 +8,7 @@ ghost use Rattle.vstatement_parse.specs.Gives.{Gives, ReadsStatements, setting_t
 ghost use Rattle.vstatement_parse.specs.Rounds.{for_at, going_at, going_tree, step_at, step_tree, step_leaves, going_leaves};
 ghost use Rattle.vgrammar.specs.Parts.{both};
 ghost use Rattle.vgrammar.specs.Statements as reading;
-ghost use Rattle.vast.specs.Words.{Text};
+ghost use Rattle.vwords.specs.Words.{Text};
 
 use crate::conditions::boxed_statement;
 use crate::settings::{Setting, read_setting};

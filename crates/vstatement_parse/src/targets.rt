@@ -16,10 +16,10 @@ use basis::OrMemory;
 use std::alloc::Global;
 use vast::statement::Target;
 use vast::token::Token;
-use vast::words::is_name;
 use vexpr_parse::{Cursor, Stop};
 use vgrammar::start::begins_target;
 use vlex::Tokens;
+use vwords::words::is_name;
 
 // What stands behind `name [` (5.2.1).
 fn select(

@@ -3,7 +3,7 @@
 ghost use Rattle.std.specs.Prelude.{◌≡◌, ◌<◌, false, codes, IfOk};
 ghost use Rattle.vexpr_parse.specs.Answers.{Keeps};
 ghost use Rattle.vast.specs.Leaves.{boxed_leaves};
-ghost use Rattle.vast.specs.Words.{is_leaf};
+ghost use Rattle.vwords.specs.Words.{is_leaf};
 ghost use Rattle.vexpr_parse.specs.Readers.{past};
 ghost use Rattle.vstatement_parse.specs.Gives.{Gives, ended_tree, value_tree};
 ghost use Rattle.vgrammar.specs.Parts.{pair};

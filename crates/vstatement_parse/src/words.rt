@@ -3,7 +3,7 @@
 ghost use Rattle.std.specs.Prelude.{◌≡◌, IfOk};
 ghost use Rattle.vexpr_parse.specs.Answers.{Keeps};
 ghost use Rattle.vast.specs.TokenTexts.{token_text};
-ghost use Rattle.vast.specs.Words.{is_string as is_string_text};
+ghost use Rattle.vwords.specs.Words.{is_string as is_string_text};
 ghost use Rattle.vstatement_parse.specs.Gives.{Gives, word_leaves};
 ghost use Rattle.vgrammar.specs.Parts.{word_as};
 ghost use Rattle.vgrammar.specs.Starts.{meant_if};
@@ -11,9 +11,9 @@ ghost use Rattle.vgrammar.specs.Statements as reading;
 
 use basis::OrMemory;
 use vast::token::Token;
-use vast::words::{is_name, is_number};
 use vexpr_parse::{Cursor, Stop};
 use vlex::Tokens;
+use vwords::words::{is_name, is_number};
 
 /// Passes a name (IEEE 1364-2005, 3.7).
 #[tactic(auto, using(crate::proofs::LeafWords::name_leaf))]

@@ -19,7 +19,6 @@ use vmodel::part::Parts;
 use vmodel::process_set::ProcessSet;
 
 /// The regions of the current time, and the future times. A clause sees them as the record `Queue` of `vmodel`.
-#[derive(Drop)]
 pub struct Regions<F: FutureTimes> {
     pub(crate) grain: Grain,
     pub(crate) until: u64,
@@ -31,6 +30,23 @@ pub struct Regions<F: FutureTimes> {
     pub(crate) posted: VecDeque<Parts>,
     pub(crate) strobes: Vec<usize>,
     pub(crate) times: F,
+}
+
+impl<F: FutureTimes + Drop> Drop for Regions<F> {
+    fn drop(self) {
+        let Regions {
+            grain: _,
+            until: _,
+            last: _,
+            beyond: _,
+            active: _,
+            inactive: _,
+            activated: _,
+            posted: _,
+            strobes: _,
+            times: _,
+        } = self;
+    }
 }
 
 impl<F: FutureTimes> Model for Regions<F> {

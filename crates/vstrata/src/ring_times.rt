@@ -18,11 +18,20 @@ use vmodel::part::Parts;
 /// The future times in order. Those less than 64 after the current time are marked in a word, so that each is found at once: as many stand
 /// before it as bits are set below its own. Hence the name: the nearest 64 times are found by their marks in one word, as in a ring of 64
 /// slots, and no entry is moved when the time goes on. A clause sees it as the record `Times` of specs/Times.antt.
-#[derive(Drop)]
 pub struct RingTimes {
     time: u64,
     near: u64,
     entries: VecDeque<FutureTime>,
+}
+
+impl Drop for RingTimes {
+    fn drop(self) {
+        let RingTimes {
+            time: _,
+            near: _,
+            entries: _,
+        } = self;
+    }
 }
 
 impl Model for RingTimes {

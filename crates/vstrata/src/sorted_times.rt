@@ -11,10 +11,18 @@ use std::marker::Model;
 use vmodel::part::Parts;
 
 /// The future times in order. A clause sees it as the record `Times` of specs/Times.antt.
-#[derive(Drop)]
 pub struct SortedTimes {
     time: u64,
     entries: VecDeque<FutureTime>,
+}
+
+impl Drop for SortedTimes {
+    fn drop(self) {
+        let SortedTimes {
+            time: _,
+            entries: _,
+        } = self;
+    }
 }
 
 impl Model for SortedTimes {

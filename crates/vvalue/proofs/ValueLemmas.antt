@@ -4,8 +4,8 @@ use Rattle.std.proofs.lemmas.List.{length-replicate}
 use Rattle.vbits.specs.declared.bit4.Bit4.{Bit4}
 use Rattle.vbits.specs.declared.bit4.Bit4.TheVariants.{X}
 use Rattle.vbits.specs.Vectors.{Vector, filled, with_sign, truth}
-use Rattle.vast.specs.declared.expression.UnaryOperator.{UnaryOperator}
-use Rattle.vast.specs.declared.expression.BinaryOperator.{BinaryOperator}
+use Rattle.vwords.specs.declared.operators.UnaryOperator.{UnaryOperator}
+use Rattle.vwords.specs.declared.operators.BinaryOperator.{BinaryOperator}
 use Rattle.vdesign.specs.declared.expression.Bounds.{Bounds}
 use Rattle.vdesign.specs.Expressions.{ExpressionTree, bit, bit_of, conversion, apply, combine, conditional, joined, repeated}
 use Rattle.vvalue.specs.declared.size_and_sign.SizeAndSign.{SizeAndSign}

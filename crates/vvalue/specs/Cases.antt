@@ -1,7 +1,7 @@
 -- *trusted*: What `case` and `repeat` ask of expressions (IEEE 1364-2005, 9.5, 9.6).
 use Rattle.std.specs.Prelude.{ℕ, Bool, true, false, ◌&&◌, ◌||◌, if◌then◌else◌, List, [], ◌∷◌, unwrap_or}
-use Rattle.vast.specs.declared.statement.CaseKind.{CaseKind}
-use Rattle.vast.specs.declared.statement.CaseKind.TheVariants as kinds
+use Rattle.vwords.specs.declared.cases.CaseKind.{CaseKind}
+use Rattle.vwords.specs.declared.cases.CaseKind.TheVariants as kinds
 use Rattle.vbits.specs.declared.bit4.Bit4.{Bit4}
 use Rattle.vbits.specs.Letters.{is_unknown, is_one, is_same, is_z}
 use Rattle.vbits.specs.Numbers.{number}

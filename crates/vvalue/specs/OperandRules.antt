@@ -1,9 +1,9 @@
 -- *trusted*: Operators by what becomes of their operands (IEEE 1364-2005, 5.4.1, table 5-22).
 use Rattle.vbits.specs.declared.reduction.Reduction.TheVariants as reduction
-use Rattle.vast.specs.declared.expression.UnaryOperator.{UnaryOperator}
-use Rattle.vast.specs.declared.expression.UnaryOperator.TheVariants as unary
-use Rattle.vast.specs.declared.expression.BinaryOperator.{BinaryOperator}
-use Rattle.vast.specs.declared.expression.BinaryOperator.TheVariants as binary
+use Rattle.vwords.specs.declared.operators.UnaryOperator.{UnaryOperator}
+use Rattle.vwords.specs.declared.operators.UnaryOperator.TheVariants as unary
+use Rattle.vwords.specs.declared.operators.BinaryOperator.{BinaryOperator}
+use Rattle.vwords.specs.declared.operators.BinaryOperator.TheVariants as binary
 use Rattle.vvalue.specs.declared.operand_rule.Shared.TheVariants as shared
 use Rattle.vvalue.specs.declared.operand_rule.Compared.TheVariants as compared
 use Rattle.vvalue.specs.declared.operand_rule.Logical.TheVariants as logical

@@ -14,10 +14,10 @@ use crate::select::is_negative;
 use crate::size::self_determined;
 use crate::size_and_sign::{SizeAndSign, common};
 use crate::value::value_of;
-use vast::statement::CaseKind;
 use vbits::{Bit4, Vec4};
 use vdesign::action::{Branch, Branches, Places};
 use vdesign::expression::Expression;
+use vwords::cases::CaseKind;
 
 // Whether a letter counts as any letter (9.5.1).
 fn is_any(kind: CaseKind, letter: Bit4) -> bool

@@ -3,8 +3,8 @@
 ghost use Rattle.std.specs.Prelude.{◌≡◌};
 ghost use Rattle.vvalue.specs.OperandRules as spec;
 
-use vast::expression::{BinaryOperator, UnaryOperator};
 use vbits::Reduction;
+use vwords::operators::{BinaryOperator, UnaryOperator};
 
 /// An operator whose operands have the size and the sign of its result.
 #[derive(Clone, Copy)]

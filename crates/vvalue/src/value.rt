@@ -13,9 +13,9 @@ use crate::operators::{binary_value, chosen_value, extended_value, fitted_value,
 use crate::select::{bit_value, indexed_bit, joined_value, part_value, repeated_value};
 use crate::size::self_determined;
 use crate::size_and_sign::{SizeAndSign, common};
-use vast::expression::{BinaryOperator, UnaryOperator};
 use vbits::Vec4;
 use vdesign::expression::{Bounds, Constant, Node};
+use vwords::operators::{BinaryOperator, UnaryOperator};
 
 // A number where it stands.
 fn number_value(number: Constant, here: SizeAndSign) -> Vec4

@@ -11,7 +11,7 @@ use Rattle.report_text.specs.declared.report.Version.TheVariants.{One, Two, Thre
 use Rattle.report_text.specs.declared.report.Outcome.{Outcome}
 use Rattle.report_text.specs.ReportText.{version_number, grain_word, departures_word, looked_word, outcome_words}
 use Rattle.report_text.specs.WellFormed.{HasViews}
-use Rattle.vast.specs.Names.{has_letters_of_name}
+use Rattle.vwords.specs.Names.{has_letters_of_name}
 use Rattle.report_text.specs.Inner.Fronts.{lacks}
 
 -- the text is a line of this label and a value, and then the rest

@@ -1,5 +1,5 @@
 use Rattle.std.proofs.Common.{◌≡◌, ◌-◌, drop, List}
-use Rattle.vast.specs.Words.{Text}
+use Rattle.vwords.specs.Words.{Text}
 use Rattle.vast.specs.NumberedTrees.{trees_of}
 use Rattle.action_origins.specs.Lengths.{each_part}
 use Rattle.action_origins.proofs.expressions.+expressions.Given as goal

@@ -1,5 +1,5 @@
 use Rattle.std.proofs.Common.{◌≡◌, ◌-◌, drop, map, List}
-use Rattle.vast.specs.Words.{Text}
+use Rattle.vwords.specs.Words.{Text}
 use Rattle.vast.specs.NumberedTrees.{instance_tree}
 use Rattle.action_origins.specs.Lengths.{length_of_each, instance_length}
 use Rattle.action_origins.proofs.modules.past_each_instance.Given as goal

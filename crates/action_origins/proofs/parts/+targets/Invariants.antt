@@ -1,5 +1,5 @@
 use Rattle.std.proofs.Common.{◌≡◌, ◌-◌, drop, List}
-use Rattle.vast.specs.Words.{Text}
+use Rattle.vwords.specs.Words.{Text}
 use Rattle.vast.specs.NumberedTrees.{target_trees}
 use Rattle.action_origins.specs.Lengths.{each_target}
 use Rattle.action_origins.proofs.parts.+targets.Given as goal

@@ -1,5 +1,5 @@
 use Rattle.std.proofs.Common.{◌≡◌, ◌-◌, length, map, List}
-use Rattle.vast.specs.Words.{Text}
+use Rattle.vwords.specs.Words.{Text}
 use Rattle.vast.specs.NumberedTrees.{further_term}
 use Rattle.action_origins.specs.Lengths.{further_length}
 use Rattle.action_origins.proofs.parts.past_further.Given as goal

@@ -1,7 +1,7 @@
 use Rattle.std.proofs.Common.{◌≡◌, ◌-◌, ◌++◌, List, ℕ, map, ap, ◌∙◌, arith}
 use Rattle.std.specs.List.{flat_map}
 use Rattle.basis.proofs.Results.{on_ok}
-use Rattle.vast.specs.Words.{Text}
+use Rattle.vwords.specs.Words.{Text}
 use Rattle.vast.specs.NumberedTrees.{item_tree, module_tree}
 use Rattle.vast.specs.declared.module.ModuleItem.{ModuleItem}
 use Rattle.vexpr_parse.specs.Texts.{words_of}

@@ -1,5 +1,5 @@
 use Rattle.std.proofs.Common.{◌≡◌, ◌++◌, drop, map, List}
-use Rattle.vast.specs.Words.{Text}
+use Rattle.vwords.specs.Words.{Text}
 use Rattle.vast.specs.NumberedTrees.{declared_tree}
 use Rattle.action_origins.specs.Origins.{declared_origins}
 use Rattle.action_origins.proofs.units.put_declared.Given as goal

@@ -1,5 +1,5 @@
 use Rattle.std.proofs.Common.{◌≡◌, ◌++◌, drop, map, List}
-use Rattle.vast.specs.Words.{Text}
+use Rattle.vwords.specs.Words.{Text}
 use Rattle.vast.specs.NumberedWords.{word_of}
 use Rattle.vast.specs.NumberedTrees.{tree_of}
 use Rattle.vast.specs.NumberedModules.{by_order}

@@ -1,5 +1,5 @@
 use Rattle.std.proofs.Common.{◌≡◌, ◌++◌, drop, map, List}
-use Rattle.vast.specs.Words.{Text}
+use Rattle.vwords.specs.Words.{Text}
 use Rattle.vast.specs.NumberedTrees.{port_tree}
 use Rattle.vmodules.specs.Ports.{port_declared}
 use Rattle.action_origins.specs.Origins.{declared_origins}

@@ -2,8 +2,9 @@ use Rattle.std.proofs.Common.{◌≡◌, ℕ, arith, sym, ap, subst, ◌∙◌, 
 use Rattle.vdesign.specs.Design.{Design}
 use Rattle.vmodel.specs.Step.{next}
 use Rattle.vmodel.specs.Run.{Setting}
-use Rattle.cause.specs.Checkpoints.{Keeps, IsCheckpointOf}
-use Rattle.cause.specs.Visits.{seen_by}
+use Rattle.cause.specs.Checkpoints.{IsCheckpointOf}
+use Rattle.footprints.specs.Keeping.{Keeps}
+use Rattle.footprints.specs.Visits.{seen_by}
 use Rattle.cause.proofs.SlotLemmas.{begun, begins_behind, goes_on, stops}
 use Rattle.cause.proofs.along.nearest_to.Goals as goal
 

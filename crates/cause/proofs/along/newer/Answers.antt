@@ -1,6 +1,6 @@
 use Rattle.std.proofs.Common.{Some, ap}
 use Rattle.vmodel.specs.declared.choice.Choice.{Choice}
-use Rattle.cause.specs.Visits.{is_in_slot}
+use Rattle.footprints.specs.Visits.{is_in_slot}
 use Rattle.cause.proofs.CheckpointLemmas.{copied_is}
 use Rattle.cause.proofs.along.newer.Goals as goal
 

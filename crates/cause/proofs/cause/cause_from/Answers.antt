@@ -3,7 +3,7 @@ use Rattle.std.proofs.lemmas.Result.{IfOk-weaker}
 use Rattle.vdesign.specs.Design.{Design}
 use Rattle.vmodel.specs.Run.{Setting}
 use Rattle.cause.specs.Causes.{HasNoCause}
-use Rattle.cause.specs.Swaps.{HasNoSwap}
+use Rattle.footprints.specs.Swaps.{HasNoSwap}
 use Rattle.cause.specs.declared.cause.Cause.{Cause}
 use Rattle.cause.proofs.AgreeLemmas.{of_parent}
 use Rattle.cause.proofs.ParentLemmas.{caused}

@@ -2,8 +2,8 @@ use Rattle.std.proofs.Common.{◌≡◌, arith, sym, ap, subst, ◌∙◌, le_re
 use Rattle.vdesign.specs.Design.{Design}
 use Rattle.vmodel.specs.Step.{next}
 use Rattle.vmodel.specs.Run.{Setting}
-use Rattle.cause.specs.Checkpoints.{Keeps}
-use Rattle.cause.specs.Visits.{seen_by}
+use Rattle.footprints.specs.Keeping.{Keeps}
+use Rattle.footprints.specs.Visits.{seen_by}
 use Rattle.cause.proofs.SlotLemmas.{begins, begun, begin_on, ended, so_on, stands_there}
 use Rattle.cause.proofs.slot.before_step.Goals as goal
 

@@ -1,4 +1,4 @@
-use Rattle.cause.specs.Visits.{IsBegin}
+use Rattle.footprints.specs.Visits.{IsBegin}
 use Rattle.cause.specs.Stands.{IsSeenSo}
 use Rattle.cause.proofs.slot.before_step.Given as goal
 

@@ -2,8 +2,8 @@ use Rattle.std.proofs.Common.{◌≡◌, arith, sym, ap, subst, ◌∙◌, le_re
 use Rattle.vdesign.specs.Design.{Design}
 use Rattle.vmodel.specs.Step.{next}
 use Rattle.vmodel.specs.Run.{Setting}
-use Rattle.cause.specs.Checkpoints.{Keeps}
-use Rattle.cause.specs.Visits.{seen_by}
+use Rattle.footprints.specs.Keeping.{Keeps}
+use Rattle.footprints.specs.Visits.{seen_by}
 use Rattle.cause.proofs.SlotLemmas.{seen_on, stands_so, where_none, where_some}
 use Rattle.cause.proofs.slot.visits_of_slot.Goals as goal
 

@@ -2,8 +2,8 @@ use Rattle.std.proofs.Common.{◌≡◌, ◌++◌, ◌+◌, ◌*◌, max, min, f
 use Rattle.vdesign.specs.Expressions.{ExpressionTree, apply, combine}
 use Rattle.vdesign.specs.Nodes.{nodes_of}
 use Rattle.vdesign.specs.declared.expression.Node.TheVariants.{Constant, Variable, Bit, BitOf, Part, Time, Conversion, Unary, Binary, Conditional, Joined, Repeated}
-use Rattle.vast.specs.declared.expression.UnaryOperator.{UnaryOperator}
-use Rattle.vast.specs.declared.expression.BinaryOperator.{BinaryOperator}
+use Rattle.vwords.specs.declared.operators.UnaryOperator.{UnaryOperator}
+use Rattle.vwords.specs.declared.operators.BinaryOperator.{BinaryOperator}
 use Rattle.vvalue.specs.declared.size_and_sign.SizeAndSign.{SizeAndSign}
 use Rattle.vvalue.specs.declared.operand_rule.OperandRule.{OperandRule}
 use Rattle.vvalue.specs.declared.operand_rule.UnaryOperandRule.{UnaryOperandRule}

@@ -1,5 +1,5 @@
 use Rattle.std.proofs.Common.{◌≡◌, ◌-◌, drop, List}
-use Rattle.vast.specs.Words.{Text}
+use Rattle.vwords.specs.Words.{Text}
 use Rattle.vast.specs.NumberedTrees.{trees_of}
 use Rattle.module_size.specs.Sizes.{expressions_size}
 use Rattle.module_size.proofs.expressions.+expressions.Given as goal

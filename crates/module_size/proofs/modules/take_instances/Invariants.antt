@@ -1,5 +1,5 @@
 use Rattle.std.proofs.Common.{◌≡◌, ◌-◌, drop, map, List, option_map}
-use Rattle.vast.specs.Words.{Text}
+use Rattle.vwords.specs.Words.{Text}
 use Rattle.vast.specs.NumberedTrees.{connections_tree, instance_tree}
 use Rattle.module_size.specs.Sizes.{connections_size, instance_size, size_if, size_of}
 use Rattle.module_size.proofs.modules.take_instances.Given as goal

@@ -1,5 +1,5 @@
 use Rattle.std.proofs.Common.{◌≡◌, ◌-◌, drop, map, List}
-use Rattle.vast.specs.Words.{Text}
+use Rattle.vwords.specs.Words.{Text}
 use Rattle.vast.specs.NumberedTrees.{connection_tree}
 use Rattle.module_size.specs.Sizes.{connection_size, size_of}
 use Rattle.module_size.proofs.modules.take_named.Given as goal

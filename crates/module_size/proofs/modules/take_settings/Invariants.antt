@@ -1,5 +1,5 @@
 use Rattle.std.proofs.Common.{◌≡◌, ◌-◌, drop, map, List}
-use Rattle.vast.specs.Words.{Text}
+use Rattle.vwords.specs.Words.{Text}
 use Rattle.vast.specs.NumberedTrees.{setting_tree}
 use Rattle.module_size.specs.Sizes.{setting_size, size_of}
 use Rattle.module_size.proofs.modules.take_settings.Given as goal

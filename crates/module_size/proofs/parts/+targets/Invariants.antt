@@ -1,5 +1,5 @@
 use Rattle.std.proofs.Common.{◌≡◌, ◌-◌, drop, List}
-use Rattle.vast.specs.Words.{Text}
+use Rattle.vwords.specs.Words.{Text}
 use Rattle.vast.specs.NumberedTrees.{target_trees}
 use Rattle.module_size.specs.Sizes.{targets_size}
 use Rattle.module_size.proofs.parts.+targets.Given as goal

@@ -1,7 +1,7 @@
 use Rattle.std.proofs.Common.{◌≤◌, ◌++◌, ◌∷◌, ◌∙◌, refl, ap, arith}
 use Rattle.std.specs.Fmt.{decimal}
 use Rattle.basis.proofs.Bools.{and_both}
-use Rattle.vast.specs.Names.{is_path}
+use Rattle.vwords.specs.Names.{is_path}
 use Rattle.report_text.proofs.ColumnLemmas.{path_lacks, column_spelled}
 use Rattle.report_text.proofs.columns.column_line.Goals as goal
 

@@ -1,6 +1,6 @@
 use Rattle.std.proofs.Common.{◌∙◌, refl, ap}
 use Rattle.basis.proofs.Bools.{and_both}
-use Rattle.vast.specs.Names.{has_letters_of_name}
+use Rattle.vwords.specs.Names.{has_letters_of_name}
 use Rattle.report_text.proofs.HeadingLemmas.{name_lacks}
 use Rattle.report_text.proofs.heading_lines.top_line.Goals as goal
 

@@ -1,6 +1,6 @@
 use Rattle.std.proofs.Common.{◌≡◌, List, drop}
 use Rattle.vast.specs.NumberedTrees.{trees_of}
-use Rattle.vast.specs.Words.{Text}
+use Rattle.vwords.specs.Words.{Text}
 use Rattle.velab_expr.specs.FirstWords.{first_among}
 use Rattle.velab_expr.specs.Rules.{number_in}
 use Rattle.velab_expr.proofs.first.+first_expressions.Given as goal

@@ -1,6 +1,6 @@
 use Rattle.std.proofs.Common.{◌≡◌, List, drop}
 use Rattle.vast.specs.NumberedTrees.{target_trees}
-use Rattle.vast.specs.Words.{Text}
+use Rattle.vwords.specs.Words.{Text}
 use Rattle.velab_expr.specs.FirstWords.{first_targets}
 use Rattle.velab_expr.specs.Rules.{number_in}
 use Rattle.velab_expr.proofs.first.+first_targets.Given as goal

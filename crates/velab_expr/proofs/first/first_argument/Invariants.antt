@@ -1,6 +1,6 @@
 use Rattle.std.proofs.Common.{◌≡◌, List, drop, map}
 use Rattle.vast.specs.NumberedTrees.{argument_tree}
-use Rattle.vast.specs.Words.{Text}
+use Rattle.vwords.specs.Words.{Text}
 use Rattle.velab_expr.specs.FirstWords.{first_argument}
 use Rattle.velab_expr.specs.Rules.{number_in}
 use Rattle.velab_expr.proofs.first.first_argument.Given as goal

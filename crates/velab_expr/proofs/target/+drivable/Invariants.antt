@@ -1,7 +1,7 @@
 use Rattle.std.proofs.Common.{◌≡◌, List, drop}
 use Rattle.std.specs.Prelude.{is_some}
 use Rattle.vast.specs.NumberedTrees.{trees_of}
-use Rattle.vast.specs.Words.{Text}
+use Rattle.vwords.specs.Words.{Text}
 use Rattle.velab_expr.specs.Written.{targets_of}
 use Rattle.velab_expr.proofs.target.+drivable.Given as goal
 

@@ -1,6 +1,6 @@
 use Rattle.std.proofs.Common.{[], refl, sym, ap, ◌∙◌}
 use Rattle.vdesign.specs.declared.action.Action.TheVariants as acts
-use Rattle.vmodel.specs.declared.process.Frame.TheVariants.{Executing}
+use Rattle.vmodel.specs.declared.frame.Frame.TheVariants.{Executing}
 use Rattle.vmodel.specs.Operands.{operand as operand_at}
 use Rattle.vflat.specs.declared.row.Row.{Row}
 use Rattle.vflat.specs.declared.row.Form.TheVariants.{Assign, Drive, Post}

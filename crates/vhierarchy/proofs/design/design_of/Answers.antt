@@ -1,5 +1,5 @@
 use Rattle.std.proofs.Common.{List, ap, sym, ◌∙◌}
-use Rattle.vast.specs.Words.{Text}
+use Rattle.vwords.specs.Words.{Text}
 use Rattle.vast.specs.NumberedModules.{ModuleTree}
 use Rattle.vast.specs.NumberedTrees.{module_tree}
 use Rattle.vmodules.specs.Inner.{units_tree}

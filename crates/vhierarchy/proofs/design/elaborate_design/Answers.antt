@@ -1,6 +1,6 @@
 use Rattle.std.proofs.Common.{◌≡◌, List, [], map, Option, None, ap, sym, subst, ◌∙◌}
 use Rattle.basis.specs.Reasons.{Because}
-use Rattle.vast.specs.Words.{Text}
+use Rattle.vwords.specs.Words.{Text}
 use Rattle.vast.specs.NumberedModules.{SourceTree}
 use Rattle.vast.specs.NumberedTrees.{source_tree, module_tree}
 use Rattle.vast.specs.declared.module.ModuleTree.{ModuleTree as Parsed}

@@ -1,6 +1,6 @@
 use Rattle.std.proofs.Common.{◌≡◌, Option, Some, None, Err, ap, sym, subst, ◌∙◌}
 use Rattle.basis.specs.declared.memory.OrMemory.{OrMemory}
-use Rattle.vast.specs.Words.{Text}
+use Rattle.vwords.specs.Words.{Text}
 use Rattle.vast.specs.NumberedModules.{ModuleTree, SourceTree}
 use Rattle.vast.specs.NumberedTrees.{module_tree}
 use Rattle.vmodules.specs.Hierarchy.{top_of}

@@ -1,5 +1,5 @@
 use Rattle.std.proofs.Common.{List, ap, sym, ◌∙◌}
-use Rattle.vast.specs.Words.{Text, without_backslash}
+use Rattle.vwords.specs.Words.{Text, without_backslash}
 use Rattle.vast.specs.NumberedModules.{ModuleTree, SourceTree}
 use Rattle.vast.specs.NumberedTrees.{module_tree}
 use Rattle.vast.specs.TokenTexts.{token_text}

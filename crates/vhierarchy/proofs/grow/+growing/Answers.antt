@@ -1,5 +1,5 @@
 use Rattle.std.proofs.Common.{◌≡◌, ◌<◌, ◌+◌, ◌-◌, ◌^◌, ℕ, List, Ok, length, map, ap, sym, subst, ◌∙◌, arith}
-use Rattle.vast.specs.Words.{Text}
+use Rattle.vwords.specs.Words.{Text}
 use Rattle.vast.specs.NumberedModules.{SourceTree}
 use Rattle.vast.specs.NumberedTrees.{module_tree}
 use Rattle.vast.specs.declared.module.ModuleItem.{ModuleItem}

@@ -1,5 +1,5 @@
 use Rattle.std.proofs.Common.{◌≡◌, ◌+◌, ◌++◌, ◌∷◌, [], List, length, map, refl, sym, ap, ◌∙◌}
-use Rattle.vast.specs.Words.{Text}
+use Rattle.vwords.specs.Words.{Text}
 use Rattle.vexpr_parse.specs.Texts.{words_of}
 use Rattle.module_size.specs.Sizes.{module_size}
 use Rattle.vmodules.specs.Ports.{Port}

@@ -1,7 +1,6 @@
-use Rattle.std.proofs.Common.{◌∷◌, [], List, length, ap, sym, ◌∙◌}
+use Rattle.std.proofs.Common.{◌∷◌, [], length, ap, sym, ◌∙◌}
 use Rattle.vbits.specs.Vectors.{Vector, with_sign}
 use Rattle.vdesign.specs.declared.action.Target.TheVariants.{Whole}
-use Rattle.vmodel.specs.declared.part.Part.{Part}
 use Rattle.vmodel.specs.declared.part.Part.TheVariants.{Whole as WholePart}
 use Rattle.vmodel.proofs.PartLemmas.{given_alone}
 use Rattle.vmodel.proofs.value.whole_part.Goals as goal

@@ -1,5 +1,5 @@
 use Rattle.std.proofs.Common.{◌≡◌, ◌≤◌, ◌++◌, List, drop, take, map, length}
-use Rattle.vast.specs.Words.{Text}
+use Rattle.vwords.specs.Words.{Text}
 use Rattle.vast.specs.NumberedTrees.{tree_of}
 use Rattle.vmodules.specs.Connected.{by_places}
 use Rattle.vmodules.specs.Inner.{entries_tree, entry_names}

@@ -1,5 +1,5 @@
 use Rattle.std.proofs.Common.{◌≡◌, ◌++◌, List, drop, map}
-use Rattle.vast.specs.Words.{Text}
+use Rattle.vwords.specs.Words.{Text}
 use Rattle.vast.specs.NumberedModules.{DeclaredTree}
 use Rattle.vast.specs.NumberedTrees.{declared_tree}
 use Rattle.vmodules.specs.Inner.{words_told}

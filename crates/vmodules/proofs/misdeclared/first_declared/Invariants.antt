@@ -1,5 +1,5 @@
 use Rattle.std.proofs.Common.{◌≡◌, List, drop}
-use Rattle.vast.specs.Words.{Text}
+use Rattle.vwords.specs.Words.{Text}
 use Rattle.vmodules.specs.Inner.{declared_valued}
 use Rattle.vmodules.proofs.misdeclared.first_declared.Given as goal
 

@@ -1,5 +1,5 @@
 use Rattle.std.proofs.Common.{◌≡◌, List, None, drop}
-use Rattle.vast.specs.Words.{Text}
+use Rattle.vwords.specs.Words.{Text}
 use Rattle.vmodules.specs.Inner.{listed_valued}
 use Rattle.vmodules.proofs.misdeclared.first_listed.Given as goal
 

@@ -1,5 +1,5 @@
 use Rattle.std.proofs.Common.{◌≡◌, ◌++◌, List, drop}
-use Rattle.vast.specs.Words.{Text}
+use Rattle.vwords.specs.Words.{Text}
 use Rattle.vmodules.specs.Inner.{listed_words, port_trees, words_told}
 use Rattle.vmodules.proofs.misdeclared.port_words.Given as goal
 

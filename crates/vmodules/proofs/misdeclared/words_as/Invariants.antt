@@ -1,5 +1,5 @@
 use Rattle.std.proofs.Common.{◌≡◌, ◌++◌, List, drop}
-use Rattle.vast.specs.Words.{Text}
+use Rattle.vwords.specs.Words.{Text}
 use Rattle.vmodules.specs.Inner.{told_as, words_told}
 use Rattle.vmodules.proofs.misdeclared.words_as.Given as goal
 

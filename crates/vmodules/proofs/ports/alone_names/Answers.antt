@@ -1,5 +1,5 @@
 use Rattle.std.proofs.Common.{Bool, List, [], ◌++◌, if◌then◌else◌, ap, sym, ◌∙◌}
-use Rattle.vast.specs.Words.{Text}
+use Rattle.vwords.specs.Words.{Text}
 use Rattle.vexpr_parse.specs.Texts.{words_of}
 use Rattle.vmodules.specs.Names.{is_declared, letters_of}
 use Rattle.vmodules.specs.Inner.{listed_words, port_trees}

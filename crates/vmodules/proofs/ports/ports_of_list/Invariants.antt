@@ -1,5 +1,5 @@
 use Rattle.std.proofs.Common.{◌≡◌, ◌++◌, List, None, map, drop}
-use Rattle.vast.specs.Words.{Text}
+use Rattle.vwords.specs.Words.{Text}
 use Rattle.vast.specs.NumberedTrees.{port_tree}
 use Rattle.vmodules.specs.Ports.{ports_behind}
 use Rattle.vmodules.specs.Inner.{port_form, direction_of}

@@ -3,8 +3,9 @@ use Rattle.sched_core.proofs.RunLemmas.{default_at_none}
 use Rattle.vdesign.specs.Design.{Design}
 use Rattle.vmodel.specs.Step.{next}
 use Rattle.vmodel.specs.Run.{Setting}
-use Rattle.cause.specs.Checkpoints.{Keeps, IsCheckpoint}
-use Rattle.cause.specs.Visits.{seen_by}
+use Rattle.cause.specs.Checkpoints.{IsCheckpoint}
+use Rattle.footprints.specs.Keeping.{Keeps}
+use Rattle.footprints.specs.Visits.{seen_by}
 use Rattle.cause.proofs.CheckpointLemmas.{left_from}
 use Rattle.cause.proofs.SlotLemmas.{begins_behind, begun, goes_on}
 use Rattle.cause.proofs.checkpoints.Checkpoints.extend.Goals as goal

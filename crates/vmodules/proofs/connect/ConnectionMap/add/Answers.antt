@@ -3,7 +3,7 @@ use Rattle.std.specs.Str.{bytes_eq}
 use Rattle.std.proofs.lemmas.List.{map-append}
 use Rattle.indexmap.specs.IndexMap.{get}
 use Rattle.indexmap.proofs.CallerLemmas.{insert_entry-new}
-use Rattle.vast.specs.Words.{Text}
+use Rattle.vwords.specs.Words.{Text}
 use Rattle.vmodules.specs.Names.{is_declared}
 use Rattle.vmodules.specs.Inner.{ConnectionEntry, entry_names}
 use Rattle.vmodules.proofs.ConnectLemmas.{Entry, pairs, known, is_none}

@@ -1,6 +1,0 @@
-use Rattle.std.proofs.Common.{◌≡◌, ◌++◌, drop}
-use Rattle.cause.specs.Inner.{named_by_all}
-use Rattle.cause.proofs.footprint.put_named.Given as goal
-
-abbrev pub invariant-loop-node : goal.invariant-loop-node
-invariant-loop-node l = l.things.items ++ named_by_all (drop l.node-index l.nodes) ≡ l.initial.things.items ++ named_by_all l.nodes

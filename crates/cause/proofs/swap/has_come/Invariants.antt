@@ -1,6 +1,0 @@
-use Rattle.std.proofs.Common.{◌≡◌, drop}
-use Rattle.cause.specs.Swaps.{has_come}
-use Rattle.cause.proofs.swap.has_come.Given as goal
-
-abbrev pub invariant-loop-other : goal.invariant-loop-other
-invariant-loop-other l = has_come l.visit (drop l.other-index l.visits) ≡ has_come l.visit l.visits

@@ -1,0 +1,4 @@
+pub mod FootprintLemmas
+pub mod LatestLemmas
+pub mod NumberLemmas
+pub mod SwapLemmas

@@ -1,0 +1,4 @@
+use Rattle.footprints.proofs.index.Index.place_of.Given as goal
+
+abbrev pub decreases-loop-left : goal.decreases-loop-left
+decreases-loop-left l = l.left

@@ -1,0 +1,25 @@
+use Rattle.std.proofs.Common.{◌≡◌, ℕ, List, ap, subst, ◌∙◌}
+use Rattle.std.specs.Prelude.{slice_get}
+use Rattle.vmodel.specs.Queue.{Later, slot_with_sleeper}
+use Rattle.vmodel.specs.Inner.{place_of_time, SomeIs, NoneIs}
+use Rattle.plain_steps.proofs.PlacedLemmas.{found_by, absent_by}
+use Rattle.plain_steps.proofs.future.wake_at.Goals as goal
+
+pub returns-then-stands_at-clause-ok : goal.returns-then-stands_at-clause-ok
+returns-then-stands_at-clause-ok c =
+    let k = c.place_among-place.result in
+    found_by c.args.time (slot_with_sleeper c.args.sleeper) c.args.future.now.items k c.index_mut.result.now c.wake_with.new.entry
+    (c.place_among-place.ensures.exact ∙ ap (place_of_time c.args.time) c.deref.ensures.value)
+    (subst (λ (xs : List (ℕ × Later)). SomeIs (λ e. e.0 ≡ c.args.time) (slice_get xs k)) c.deref-2.ensures.value
+    (c.stands_at.ensures.yes c.if-stands_at.true))
+    c.index_mut.ensures.value c.wake_with.ensures
+
+pub returns-clause-ok : goal.returns-clause-ok
+returns-clause-ok c =
+    let k = c.place_among-place.result in
+    c.in_ok-insert.ensures.items
+    ∙ absent_by c.args.time (slot_with_sleeper c.args.sleeper) c.args.future.now.items k c.new_future-entry.result
+    (c.place_among-place.ensures.exact ∙ ap (place_of_time c.args.time) c.deref.ensures.value)
+    (subst (λ (xs : List (ℕ × Later)). NoneIs (λ e. e.0 ≡ c.args.time) (slice_get xs k)) c.deref-2.ensures.value
+    (c.stands_at.ensures.no c.if-stands_at.false))
+    c.new_future-entry.ensures

@@ -1,6 +1,0 @@
-use Rattle.std.proofs.Common.{not, sym, ap, ◌∙◌}
-use Rattle.vast.proofs.StatementFitLemmas.{some_branches}
-use Rattle.vast.proofs.statement_fits.is_some_branch.Goals as goal
-
-pub returns : goal.returns
-returns c words = ap not c.is_empty.ensures ∙ sym (some_branches words c.args.branches.now)

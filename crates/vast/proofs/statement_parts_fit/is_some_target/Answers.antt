@@ -1,6 +1,0 @@
-use Rattle.std.proofs.Common.{not, sym, ap, ◌∙◌}
-use Rattle.vast.proofs.StatementFitLemmas.{some_targets}
-use Rattle.vast.proofs.statement_parts_fit.is_some_target.Goals as goal
-
-pub returns : goal.returns
-returns c words = ap not c.is_empty.ensures ∙ sym (some_targets words c.args.targets.now)

@@ -1,6 +1,0 @@
-use Rattle.std.proofs.Common.{◌≡◌, drop}
-use Rattle.vmodel.specs.Digest.{digest_of_parts}
-use Rattle.vmodel.proofs.digest.mix_list.Given as goal
-
-abbrev pub invariant-loop-part : goal.invariant-loop-part
-invariant-loop-part l = digest_of_parts l.digest (drop l.part-index l.parts) ≡ digest_of_parts l.first l.parts

@@ -1,0 +1,3 @@
+pub mod FitLemmas
+pub mod StatementFitLemmas
+pub mod SpellLemmas

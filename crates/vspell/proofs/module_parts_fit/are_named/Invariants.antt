@@ -1,0 +1,11 @@
+use Rattle.std.proofs.Common.{◌≡◌, drop, map}
+use Rattle.std.specs.List.{list_all}
+use Rattle.vast.specs.TokenTexts.{texts}
+use Rattle.vast.specs.Modules.{is_named_port}
+use Rattle.vast.specs.ModuleTrees.{port_tree}
+use Rattle.vspell.proofs.module_parts_fit.are_named.Given as goal
+
+abbrev pub invariant-loop-port : goal.invariant-loop-port
+invariant-loop-port l =
+    list_all is_named_port (map (port_tree (texts l.words)) (drop l.port-index l.ports))
+    ≡ list_all is_named_port (map (port_tree (texts l.words)) l.ports)

@@ -1,0 +1,3 @@
+-- *internal*: The list of these files; the first word of each says whether it has to be believed.
+pub mod Words
+pub mod Names
