@@ -1,0 +1,89 @@
+// The dump of a run in two ways that `vrace` doesn't take. In go a text, and as words the way, the grain, the time limit, the greatest number
+// of steps, the log and, where it is named, the top. With `steps` each state is the copy of the one before it with one step of the
+// definition (`slow_step`); with `history` the machine makes the whole history, and the dump of that list is written. Out comes the dump.
+
+mod run;
+
+use crate::given::{
+    NO_MEMORY, Stop, design_given, grain_at, log_at, number_at, small_number_at, word_at,
+};
+use byte_sinks::Metered;
+use plain_steps::opening;
+use run::take_run;
+use sched_core::Log;
+use sched_core::setting::Grain;
+use std::alloc::Global;
+use std::io::{self, Write};
+use vcd_text::{DumpSink, write_vcd};
+use vdesign::design::Design;
+use vmachine::Machine;
+
+// What the run is like.
+#[derive(Clone, Copy)]
+struct Asked {
+    grain: Grain,
+    until: u64,
+    steps: u32,
+}
+
+// Takes the run by plain steps, and writes its dump.
+fn put_run(
+    alloc: Global,
+    design: &Design,
+    asked: &Asked,
+    log: &Log,
+    writer: &mut Metered<Vec<u8>>,
+) -> Result<(), Stop> {
+    let first = opening(alloc, design, asked.until, asked.grain)?;
+    let mut sink = DumpSink::new(alloc, design, writer);
+    let last = take_run(alloc, design, first, log, asked.steps, &mut sink)?;
+    match sink.finish(&last.end()) {
+        Ok(()) => Ok(()),
+        Err(_) => Err(Stop::Word(NO_MEMORY)),
+    }
+}
+
+// The dump of the run under the log, by plain steps.
+fn dump_by_steps(
+    alloc: Global,
+    design: &Design,
+    asked: &Asked,
+    log: &Log,
+) -> Result<Vec<u8>, Stop> {
+    let mut writer = Metered::new(Vec::new(alloc));
+    put_run(alloc, design, asked, log, &mut writer)?;
+    Ok(writer.into_inner())
+}
+
+// The dump of its whole history.
+fn dump_of_history(
+    alloc: Global,
+    design: Design,
+    asked: &Asked,
+    log: &Log,
+) -> Result<Vec<u8>, Stop> {
+    let machine = Machine::new(alloc, design, asked.until, asked.grain)?;
+    let history = machine.history(log, asked.steps)?;
+    let mut writer = Metered::new(Vec::new(alloc));
+    match write_vcd(alloc, machine.design(), &history, &mut writer) {
+        Ok(()) => Ok(writer.into_inner()),
+        Err(_) => Err(Stop::Word(NO_MEMORY)),
+    }
+}
+
+/// Writes what these words ask for.
+pub fn tell(rt: &HostRuntime, words: &[String]) -> Result<(), Stop> {
+    let design = design_given(rt, words.get(5))?;
+    let log = log_at(rt.alloc(), words, 4)?;
+    let asked = Asked {
+        grain: grain_at(words, 1),
+        until: number_at(words, 2, 100),
+        steps: small_number_at(words, 3, 1_000),
+    };
+    let dump = if word_at(words, 0) == "history" {
+        dump_of_history(rt.alloc(), design, &asked, &log)?
+    } else {
+        dump_by_steps(rt.alloc(), &design, &asked, &log)?
+    };
+    Ok(io::writer(rt).write_all(&dump)?)
+}

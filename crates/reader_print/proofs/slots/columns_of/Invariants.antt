@@ -1,5 +1,0 @@
-use Rattle.vcd_slots.specs.Following.{IsFresh, IsSound}
-use Rattle.reader_print.proofs.slots.columns_of.Given as goal
-
-abbrev pub invariant-loop-variable : goal.invariant-loop-variable
-invariant-loop-variable l = record { sound : IsSound l.columns; fresh : IsFresh l.columns }
