@@ -217,7 +217,7 @@ static OF_THE_MACHINE: [Explanation; 4] = [
         number: 902,
         meaning: "standard output failed, or a file of waivers, a page or a dump of two runs can't be written",
         example: "a full disk, a closed pipe; a folder that isn't there",
-        advice: "what stands on standard output is a prefix of what was asked for, and a file is as it was before: make room and call again",
+        advice: "what stands on standard output is a prefix of what was asked for, and each file is as it was before or the whole new one, as the words of races say: make room and call again",
     },
     Explanation {
         number: 903,

@@ -10,7 +10,7 @@ pub use explanations::{Explanation, explanation_of, show, show_advice, show_all}
 pub use words::{
     Allowance, MatchWords, RaceWords, Request, Search, VERSION, Wanted, commands, files_of,
     has_dashed_dump, has_dashed_log, has_dashed_report, has_dashed_top, has_dashed_waivers,
-    has_joined_letters, has_one_output_for_two, has_output_over_file, is_in_words, log_of,
-    match_request_of, match_words_of, race_request_of, race_search_of, race_words_of, report_of,
-    request_of, search_of, steps_of, until_of, wanted_of,
+    has_joined_letters, has_one_output_for_two, has_opposites, has_output_over_file, has_two_dumps,
+    is_in_words, log_of, match_request_of, match_words_of, race_request_of, race_search_of,
+    race_words_of, report_of, request_of, search_of, steps_of, until_of, wanted_of,
 };

@@ -202,7 +202,7 @@ static EXPLORE: [Row; 13] = [
     IN_WORDS,
 ];
 
-static RACES: [Row; 17] = [
+static RACES: [Row; 20] = [
     Row {
         name: "top",
         takes: Takes::Words("N"),
@@ -223,7 +223,19 @@ static RACES: [Row; 17] = [
         help: "The most steps of one run",
     },
     GRAIN,
+    Row {
+        name: "hold",
+        takes: Takes::Nothing,
+        default: None,
+        help: "Departures may also hold back processes, as they may where nothing is said",
+    },
     TAKING,
+    Row {
+        name: "lines",
+        takes: Takes::Nothing,
+        default: None,
+        help: "Compares the lines that slots print, too, as it does where nothing is said",
+    },
     Row {
         name: "values",
         takes: Takes::Nothing,
@@ -267,10 +279,16 @@ static RACES: [Row; 17] = [
         help: "Writes a page for a browser: each race with the waveforms of both runs and the two statements",
     },
     Row {
-        name: "vcd",
+        name: "write-vcd",
         takes: Takes::Word("FILE"),
         default: None,
         help: "Writes a value change dump of both runs of the first race, under the scopes default and departed",
+    },
+    Row {
+        name: "vcd",
+        takes: Takes::Word("FILE"),
+        default: None,
+        help: "The same, but not over a file that is no dump of vrace's",
     },
     SECONDS,
     Row {
@@ -671,8 +689,8 @@ pub fn search_of(matches: &ArgMatches<'_>) -> Search {
 }
 
 /// What a search for races asks for beside its machine: the top modules, none where none is named; the last time to which runs go, and the
-/// first of which differences are told; whether all are named, how what was found is written, the file of the waivers, and the file that
-/// waivers are written to.
+/// first of which differences are told; whether all are named, how what was found is written, the file of the waivers, and the files that
+/// waivers, a page and a dump are written to.
 #[derive(Drop)]
 pub struct RaceWords<'a> {
     pub tops: Vec<&'a str>,
@@ -683,7 +701,9 @@ pub struct RaceWords<'a> {
     pub waive: Option<&'a str>,
     pub write_waivers: Option<&'a str>,
     pub html: Option<&'a str>,
-    pub vcd: Option<&'a str>,
+    pub dump: Option<&'a str>,
+    /// Whether that is named by `--vcd`, which writes over no file but a dump of the program.
+    pub over_dumps_alone: bool,
 }
 
 /// Whether the value of an option that names a file of waivers reads as an option.
@@ -691,7 +711,27 @@ pub fn has_dashed_waivers(matches: &ArgMatches<'_>) -> bool {
     is_dashed(matches, "waive")
         || is_dashed(matches, "write-waivers")
         || is_dashed(matches, "html")
+        || is_dashed(matches, "write-vcd")
         || is_dashed(matches, "vcd")
+}
+
+/// Whether words after `races` take back what others ask for.
+pub fn has_opposites(matches: &ArgMatches<'_>) -> bool {
+    matches.get_flag("hold") && matches.get_flag("taking")
+        || matches.get_flag("lines") && matches.get_flag("values")
+}
+
+/// Whether the dump is named by two options.
+pub fn has_two_dumps(matches: &ArgMatches<'_>) -> bool {
+    matches.get_str("write-vcd").is_some() && matches.get_str("vcd").is_some()
+}
+
+// The file of the dump that `races` writes.
+fn dump_of<'a>(matches: &ArgMatches<'a>) -> Option<&'a str> {
+    match matches.get_str("write-vcd") {
+        None => matches.get_str("vcd"),
+        named => named,
+    }
 }
 
 // Whether the word stands among these.
@@ -704,9 +744,9 @@ fn is_among(words: &[&str], word: &str) -> bool {
     false
 }
 
-// Whether the option names one of the files that are read.
-fn is_over_file(matches: &ArgMatches<'_>, option: &str) -> bool {
-    match (matches.get_str(option), matches.get_strs("FILE")) {
+// Whether one of the files that are read has this name.
+fn is_over_file(matches: &ArgMatches<'_>, name: Option<&str>) -> bool {
+    match (name, matches.get_strs("FILE")) {
         (Some(name), Some(files)) => is_among(files, name),
         _ => false,
     }
@@ -714,14 +754,14 @@ fn is_over_file(matches: &ArgMatches<'_>, option: &str) -> bool {
 
 /// Whether a file that is written would take the place of one that is read.
 pub fn has_output_over_file(matches: &ArgMatches<'_>) -> bool {
-    is_over_file(matches, "write-waivers")
-        || is_over_file(matches, "html")
-        || is_over_file(matches, "vcd")
+    is_over_file(matches, matches.get_str("write-waivers"))
+        || is_over_file(matches, matches.get_str("html"))
+        || is_over_file(matches, dump_of(matches))
 }
 
-// Whether two options name one file.
-fn name_one_file(matches: &ArgMatches<'_>, one: &str, other: &str) -> bool {
-    match (matches.get_str(one), matches.get_str(other)) {
+// Whether both are there and one name.
+fn are_one_name(one: Option<&str>, other: Option<&str>) -> bool {
+    match (one, other) {
         (Some(name), Some(same)) => name == same,
         _ => false,
     }
@@ -729,9 +769,9 @@ fn name_one_file(matches: &ArgMatches<'_>, one: &str, other: &str) -> bool {
 
 /// Whether two files that are written would be one.
 pub fn has_one_output_for_two(matches: &ArgMatches<'_>) -> bool {
-    name_one_file(matches, "html", "vcd")
-        || name_one_file(matches, "html", "write-waivers")
-        || name_one_file(matches, "vcd", "write-waivers")
+    let (page, waivers) = (matches.get_str("html"), matches.get_str("write-waivers"));
+    let dump = dump_of(matches);
+    are_one_name(page, dump) || are_one_name(page, waivers) || are_one_name(dump, waivers)
 }
 
 /// What the words after `races` ask for alone.
@@ -748,7 +788,8 @@ pub fn race_words_of<'a>(
         waive: matches.get_str("waive"),
         write_waivers: matches.get_str("write-waivers"),
         html: matches.get_str("html"),
-        vcd: matches.get_str("vcd"),
+        dump: dump_of(matches),
+        over_dumps_alone: matches.get_str("vcd").is_some(),
     })
 }
 

@@ -56,8 +56,8 @@ const UNITS: [&str; 6] = ["s", "ms", "us", "ns", "ps", "fs"];
 // The latest time that there is.
 const LAST_TIME: u64 = 4_611_686_018_427_387_903;
 
-/// Whether these words tell races.
-pub fn tell_races(words: &[String]) -> bool {
+// Whether these words tell races.
+fn tell_races(words: &[String]) -> bool {
     match words.get(1) {
         None => false,
         Some(command) => command.as_str() == "races",
@@ -83,33 +83,6 @@ pub fn ask_for_words(words: &[String]) -> bool {
         }
     }
     tell_people(words)
-}
-
-// What is said of a word that `races` doesn't take, as it does so already.
-fn needless_text(word: &str) -> Option<&'static str> {
-    match word {
-        "--hold" => Some("--hold: races holds back already; --taking takes that back\n"),
-        "--lines" => Some(
-            "--lines: races compares printed lines already; --values takes that back\n",
-        ),
-        _ => None,
-    }
-}
-
-/// What is said of the first word that `races` doesn't take as it does so already, if there is one.
-pub fn needless_in(words: &[String]) -> Option<&'static str> {
-    if !tell_races(words) {
-        return None;
-    }
-    for word in words {
-        if word.as_str() == "--" {
-            return None;
-        }
-        if let Some(text) = needless_text(word.as_str()) {
-            return Some(text);
-        }
-    }
-    None
 }
 
 // What stands behind `=` where the word is the option with its value.
@@ -231,9 +204,33 @@ pub fn unopened_text(alloc: Global, name: &str, error: &io::Error) -> Result<Str
     Ok(format!(in alloc; "{name}: can't be opened: {error}\n")?)
 }
 
-/// What is said of a file that can't be written.
-pub fn unwritten_text(alloc: Global, name: &str) -> Result<String, NoMemory> {
-    Ok(format!(in alloc; "{name}: can't be written; is its folder there?\n")?)
+/// What is said of a file that can't be written, with the system's reason; where there is none its folder isn't there.
+pub fn unwritten_text(
+    alloc: Global,
+    name: &str,
+    error: Option<&io::Error>,
+) -> Result<String, NoMemory> {
+    Ok(match error {
+        None => format!(in alloc; "{name}: can't be written; is its folder there?\n")?,
+        Some(error) => format!(in alloc; "{name}: can't be written: {error}\n")?,
+    })
+}
+
+/// What is said of a file for whose new text no name is free.
+pub fn taken_text(alloc: Global, name: &str) -> Result<String, NoMemory> {
+    Ok(format!(in alloc; "{name}: can't be written: {name}.new and each name after it is taken\n")?)
+}
+
+/// What is said of a word that is no command.
+pub const NO_COMMAND: &str =
+    "    instead: vrace races FILE.. finds races, vrace replay FILE.. runs the files once; vrace --help has all commands\n";
+
+/// What a fault of the command line says first: that is up to its first empty line.
+pub fn first_paragraph(text: &str) -> &str {
+    match text.split_once("\n\n") {
+        None => text.trim_end(),
+        Some((first, _)) => first,
+    }
 }
 
 /// What is said of a name at which no file can be written, as something else stands there.

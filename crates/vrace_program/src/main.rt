@@ -8,6 +8,7 @@ mod complaints;
 mod dump_flaws;
 mod matches;
 mod meter;
+mod outputs;
 mod races;
 mod refusals;
 mod times;
@@ -19,17 +20,18 @@ use clap::{ArgMatches, Error};
 use command_line::{
     Allowance, Request, Search, Wanted, commands, explanation_of, files_of, has_dashed_dump,
     has_dashed_log, has_dashed_report, has_dashed_top, has_dashed_waivers, has_joined_letters,
-    has_one_output_for_two, has_output_over_file, is_in_words, log_of, match_request_of,
-    match_words_of, race_request_of, race_search_of, race_words_of, report_of, request_of,
-    search_of, show, show_advice, show_all, steps_of, until_of, wanted_of,
+    has_one_output_for_two, has_opposites, has_output_over_file, has_two_dumps, is_in_words,
+    log_of, match_request_of, match_words_of, race_request_of, race_search_of, race_words_of,
+    report_of, request_of, search_of, show, show_advice, show_all, steps_of, until_of, wanted_of,
 };
 use complaints::{
-    TOO_LONG_TOGETHER, ask_for_words, limits_text, needless_in, unopened_text, unread_text,
-    value_of, waiver_text,
+    NO_COMMAND, TOO_LONG_TOGETHER, ask_for_words, first_paragraph, limits_text, unopened_text,
+    unread_text, value_of, waiver_text,
 };
 use dump_flaws::flaw_words;
 use matches::tell_match;
 use meter::{Meter, check_limits};
+use outputs::{ONE_FOR_TWO, OVER_SOURCE};
 use races::tell_races;
 use refusals::with_words;
 use sched_core::setting::Looked;
@@ -481,21 +483,34 @@ fn explore_by<'a, R: Threads + Wait + Sync>(
     explore(rt, threads, &request, &search)
 }
 
-// What is said where a file that is to be written would take the place of a source, or of another.
-const OVER_SOURCE: &str = "a file that is to be written is a file of Verilog";
+// Said of options that take back what others ask for.
+const OPPOSITES: &str = "--hold doesn't go with --taking, nor --lines with --values";
 
-const ONE_FOR_TWO: &str = "two files that are to be written have one name";
+// Said of two options that name one dump.
+const TWO_DUMPS: &str =
+    "--vcd doesn't go with --write-vcd: both name the dump that is to be written";
+
+// What the words after `races` ask for that can't be had, if anything.
+fn misfit_in(matches: &ArgMatches<'_>) -> Option<&'static str> {
+    if has_dashed_top(matches) || has_dashed_waivers(matches) {
+        Some(DASHED)
+    } else if has_opposites(matches) {
+        Some(OPPOSITES)
+    } else if has_two_dumps(matches) {
+        Some(TWO_DUMPS)
+    } else if has_output_over_file(matches) {
+        Some(OVER_SOURCE)
+    } else if has_one_output_for_two(matches) {
+        Some(ONE_FOR_TWO)
+    } else {
+        None
+    }
+}
 
 // Tells the races that the words ask for.
 fn races_by<'a>(rt: &HostRuntime, matches: &ArgMatches<'a>) -> Result<ExitCode, Stop> {
-    if has_dashed_top(matches) || has_dashed_waivers(matches) {
-        return Err(Stop::Usage(DASHED));
-    }
-    if has_output_over_file(matches) {
-        return Err(Stop::Usage(OVER_SOURCE));
-    }
-    if has_one_output_for_two(matches) {
-        return Err(Stop::Usage(ONE_FOR_TWO));
+    if let Some(reason) = misfit_in(matches) {
+        return Err(Stop::Usage(reason));
     }
     let request = race_request_of(rt.alloc(), matches)?;
     let words = race_words_of(rt.alloc(), matches)?;
@@ -617,17 +632,42 @@ fn say_dump(rt: &HostRuntime, words: &[String], line: u64, flaw: VcdFlaw) {
     let _ = eprintln!(rt; "{name}:{line}: no value change dump (IEEE 1364-2005, 18.2): {reason}");
 }
 
+// Says what to write in place of a word that is no command.
+fn say_commands(rt: &HostRuntime, error: &Error) {
+    if error.kind() == ErrorKind::InvalidSubcommand {
+        say(rt, NO_COMMAND);
+    }
+}
+
+// Says which word of a command line was wrong.
+fn say_word(rt: &HostRuntime, error: &Error) {
+    if let Ok(text) = format!(in rt.alloc(); "{error}") {
+        let first = first_paragraph(text.as_str());
+        let _ = eprintln!(rt; "{first}");
+    }
+    say_commands(rt, error);
+}
+
+// What is said behind the line of a refusal where no words are asked for: what is wrong with the command line.
+fn say_wrong_words(rt: &HostRuntime, stop: &Stop) {
+    match stop {
+        Stop::Unparsed(error) => say_word(rt, error),
+        Stop::Usage(reason) => {
+            let _ = eprintln!(rt; "{reason}");
+        }
+        _ => {}
+    }
+}
+
 // What is said behind the line of a refusal.
 fn say_more(rt: &HostRuntime, words: &[String], stop: &Stop) {
     match stop {
         Stop::Helped => {}
         Stop::NoMemory => {}
-        Stop::Unparsed(error) => match needless_in(words) {
-            Some(text) => say(rt, text),
-            None => {
-                let _ = eprint!(rt; "{error}");
-            }
-        },
+        Stop::Unparsed(error) => {
+            let _ = eprint!(rt; "{error}");
+            say_commands(rt, error);
+        }
         Stop::Usage(reason) => {
             let _ = eprintln!(rt; "{reason}");
         }
@@ -676,6 +716,8 @@ fn say_stop(rt: &HostRuntime, words: &[String], stop: &Stop) -> ExitCode {
     let code = say_line(rt, stop);
     if ask_for_words(words) {
         say_more(rt, words, stop);
+    } else {
+        say_wrong_words(rt, stop);
     }
     code
 }

@@ -1,26 +1,26 @@
 // The races of files, told to people and to programs.
 
-use crate::complaints::{no_file_text, unwritten_text};
 use crate::meter::Meter;
+use crate::outputs::{OVER_ANOTHER, OVER_WAIVERS, Outputs, are_one, is_another};
 use crate::refusals::with_words;
 use crate::times::{Bounds, Times};
-use crate::{ONE_FOR_TWO, OVER_SOURCE, Stop, finish, options_for, read_file, refused_file, texts};
+use crate::{Stop, finish, options_for, read_file, texts};
 use basis::NoMemory;
 use byte_sinks::Metered;
 use command_line::{Allowance, RaceWords, Request, Search, VERSION};
+use race_facts::Sources;
 use race_groups::{Group, Races, Scope};
-use race_page::Page;
+use race_page::{Page, TopRaces};
 use race_text::{
-    Findings, Format, NAMED, SearchSummary, Sources, Tops, Waived, Waiver, WaiverFault,
-    WaiverLines, WaiverScope, read_waivers,
+    Findings, Format, NAMED, SearchSummary, Tops, Waived, WaiverLines, groups_texts, summary_text,
 };
+use race_words::{Waiver, WaiverFault, WaiverScope, read_waivers};
 use run_pair::write_pair;
 use std::alloc::Global;
+use std::io;
 use std::io::{BufWriter, Write};
-use std::path::Path;
 use std::process::ExitCode;
 use std::rt::Clock;
-use std::{fs, io};
 use vrace::{Budget, Fault, FoundRaces, Options, RankedStatus, Spent, find_races_in};
 
 // What a search may take of which nothing is said.
@@ -250,13 +250,26 @@ fn put_dump(
     findings: &Findings<'_>,
     asked: &Asked<'_>,
 ) -> Result<(), Stop> {
-    if asked.words.vcd.is_none() || answer.dump.is_some() {
+    if asked.words.dump.is_none() || answer.dump.is_some() {
         return Ok(());
     }
     if let Some(group) = first_unwaived(findings) {
         answer.dump = Some(dump_of(alloc, findings, group, asked.steps)?);
     }
     Ok(())
+}
+
+// Puts what was found of a top module onto the page.
+fn put_page(alloc: Global, page: &mut Page, findings: &Findings<'_>) -> Result<(), NoMemory> {
+    let summary = summary_text(alloc, findings)?;
+    let words = groups_texts(alloc, findings)?;
+    page.tell(&TopRaces {
+        machine: findings.machine,
+        sources: findings.sources,
+        races: findings.races,
+        summary: &summary,
+        words: &words,
+    })
 }
 
 // Puts what was found of a top module onto the page and into the dump, where they are asked for.
@@ -267,7 +280,7 @@ fn put_pictures(
     asked: &Asked<'_>,
 ) -> Result<(), Stop> {
     if let Some(page) = &mut answer.page {
-        page.tell(findings)?;
+        put_page(alloc, page, findings)?;
     }
     put_dump(alloc, answer, findings, asked)
 }
@@ -337,31 +350,6 @@ fn tell_tops<'w>(
     Ok(answer)
 }
 
-// The name of a file with `.new` behind it.
-fn new_name(alloc: Global, name: &str) -> Result<String, NoMemory> {
-    let mut new = String::from_str(alloc, name)?;
-    new.push_str(".new")?;
-    Ok(new)
-}
-
-// The refusal of a file that can't be written.
-fn refused_output(alloc: Global, name: &str) -> Stop {
-    match unwritten_text(alloc, name) {
-        Ok(words) => refused_file(Fault::Write, words),
-        Err(refused) => Stop::from(refused),
-    }
-}
-
-// Writes the file beside, and then gives it its name, so that nothing half written stays.
-fn write_file(rt: &HostRuntime, name: &str, text: &[u8]) -> Result<(), Stop> {
-    let new = new_name(rt.alloc(), name)?;
-    if fs::write(rt, new.as_str(), text).is_ok() && fs::rename(rt, new.as_str(), name).is_ok() {
-        return Ok(());
-    }
-    let _ = fs::remove_file(rt, new.as_str());
-    Err(refused_output(rt.alloc(), name))
-}
-
 /// Writes the document to standard output.
 pub fn write_out(rt: &HostRuntime, text: &[u8]) -> Result<(), Stop> {
     let Ok(buffered) = BufWriter::new(rt.alloc(), io::writer(rt)) else {
@@ -374,136 +362,89 @@ pub fn write_out(rt: &HostRuntime, text: &[u8]) -> Result<(), Stop> {
     finish(&mut writer)
 }
 
-// Writes the dump; where there is none, one that was written before goes, as it would be taken for that of this call.
-fn write_dump(rt: &HostRuntime, name: &str, dump: Option<Vec<u8>>) -> Result<(), Stop> {
-    match dump {
-        Some(dump) => write_file(rt, name, &dump),
-        None => {
-            let _ = fs::remove_file(rt, name);
-            let _ = eprintln!(rt;
-                "no dump is written to {name}: there is no race that isn't waived"
-            );
-            Ok(())
+// The names of the files that are to be written: of waivers, of a page, of a dump.
+fn named_outputs<'a>(alloc: Global, words: &RaceWords<'a>) -> Result<Outputs<'a>, NoMemory> {
+    let mut outputs = Outputs::new(alloc);
+    for name in [words.write_waivers, words.html, words.dump] {
+        if let Some(name) = name {
+            outputs.put(name, None)?;
         }
     }
+    Ok(outputs)
 }
 
-// Writes the page and the dump where they are asked for.
-fn write_pictures(
-    rt: &HostRuntime,
-    words: &RaceWords<'_>,
-    page: Option<Page>,
-    dump: Option<Vec<u8>>,
-) -> Result<(), Stop> {
-    if let (Some(name), Some(page)) = (words.html, page) {
-        write_file(rt, name, &page.document()?)?;
-    }
-    if let Some(name) = words.vcd {
-        write_dump(rt, name, dump)?;
-    }
-    Ok(())
-}
-
-// Whether what stands there is no file, but a folder or a device.
-fn is_no_file(rt: &HostRuntime, name: &str) -> bool {
-    match fs::metadata(rt, name) {
-        Ok(found) => !found.is_file(),
-        Err(_) => false,
-    }
-}
-
-// The refusal of a name at which there is a folder or a device.
-fn refused_place(alloc: Global, name: &str) -> Stop {
-    match no_file_text(alloc, name) {
-        Ok(words) => refused_file(Fault::Write, words),
-        Err(refused) => Stop::from(refused),
-    }
-}
-
-// Whether the file can be written: it is tried beside.
-fn try_file(rt: &HostRuntime, name: Option<&str>) -> Result<(), Stop> {
-    let Some(name) = name else {
-        return Ok(());
-    };
-    if is_no_file(rt, name) {
-        return Err(refused_place(rt.alloc(), name));
-    }
-    let new = new_name(rt.alloc(), name)?;
-    if fs::write(rt, new.as_str(), b"").is_err() {
-        return Err(refused_output(rt.alloc(), name));
-    }
-    let _ = fs::remove_file(rt, new.as_str());
-    Ok(())
-}
-
-// Whether both names are of one file that is there.
-fn are_one(rt: &HostRuntime, one: &str, other: &str) -> bool {
-    match (
-        Path::new(one).canonicalize(rt),
-        Path::new(other).canonicalize(rt),
-    ) {
-        (Ok(one), Ok(other)) => one.as_path().as_str() == other.as_path().as_str(),
+// Whether the file that is to be written is that of the waivers that are read.
+fn is_waivers(rt: &HostRuntime, words: &RaceWords<'_>, name: Option<&str>) -> bool {
+    match (words.waive, name) {
+        (Some(waivers), Some(name)) => are_one(rt, waivers, name),
         _ => false,
     }
 }
 
-// Whether two files that are to be written would be one: what is written beside the first is then beside the other.
-fn would_be_one(
-    rt: &HostRuntime,
-    one: Option<&str>,
-    other: Option<&str>,
-) -> Result<bool, NoMemory> {
-    let (Some(one), Some(other)) = (one, other) else {
-        return Ok(false);
-    };
-    let new = new_name(rt.alloc(), one)?;
-    let beside = new_name(rt.alloc(), other)?;
-    let _ = fs::write(rt, new.as_str(), b"");
-    let same = are_one(rt, new.as_str(), beside.as_str());
-    let _ = fs::remove_file(rt, new.as_str());
-    Ok(same)
+// Whether the dump would be written over what isn't one.
+fn is_over_another(rt: &HostRuntime, words: &RaceWords<'_>) -> bool {
+    match words.dump {
+        Some(name) if words.over_dumps_alone => is_another(rt, name),
+        _ => false,
+    }
 }
 
-// Refuses a file to be written that is one of those that are read.
-fn keep_sources(rt: &HostRuntime, name: Option<&str>, files: &[&str]) -> Result<(), Stop> {
-    let Some(name) = name else {
-        return Ok(());
-    };
-    for file in files {
-        if are_one(rt, name, file) {
-            return Err(Stop::Usage(OVER_SOURCE));
+// Whether each file that is asked for can be written, and takes the place of none that is read, nor of another. Waivers may be read and
+// written by one call. Nothing that is there is changed.
+fn try_files(rt: &HostRuntime, words: &RaceWords<'_>, files: &[&str]) -> Result<(), Stop> {
+    let outputs = named_outputs(rt.alloc(), words)?;
+    outputs.look(rt, files)?;
+    if is_waivers(rt, words, words.html) || is_waivers(rt, words, words.dump) {
+        return Err(Stop::Usage(OVER_WAIVERS));
+    }
+    if is_over_another(rt, words) {
+        return Err(Stop::Usage(OVER_ANOTHER));
+    }
+    outputs.try_all(rt)
+}
+
+// The files that are to be written, with their texts. Where there is no dump, one that was written before goes, as it would be taken for
+// that of this call.
+fn told_outputs<'a>(
+    alloc: Global,
+    words: &RaceWords<'a>,
+    waivers: WaiverLines,
+    page: Option<Page>,
+    dump: Option<Vec<u8>>,
+) -> Result<Outputs<'a>, Stop> {
+    let mut outputs = Outputs::new(alloc);
+    if let Some(name) = words.write_waivers {
+        outputs.put(name, Some(waivers.text()?))?;
+    }
+    if let (Some(name), Some(page)) = (words.html, page) {
+        outputs.put(name, Some(page.document()?))?;
+    }
+    if let Some(name) = words.dump {
+        outputs.put(name, dump)?;
+    }
+    Ok(outputs)
+}
+
+// Says that there is no dump, where one was asked for.
+fn say_undumped(rt: &HostRuntime, words: &RaceWords<'_>, is_dumped: bool) {
+    if let Some(name) = words.dump {
+        if !is_dumped {
+            let _ = eprintln!(rt;
+                "no dump is written to {name}: there is no race that isn't waived"
+            );
         }
     }
-    Ok(())
 }
 
-// Refuses two files to be written that are one.
-fn keep_apart(rt: &HostRuntime, words: &RaceWords<'_>) -> Result<(), Stop> {
-    let RaceWords {
-        write_waivers,
-        html,
-        vcd,
-        ..
-    } = words;
-    if would_be_one(rt, *html, *vcd)?
-        || would_be_one(rt, *html, *write_waivers)?
-        || would_be_one(rt, *vcd, *write_waivers)?
-    {
-        return Err(Stop::Usage(ONE_FOR_TWO));
+// Writes the document behind the files.
+fn write_document(rt: &HostRuntime, outputs: &Outputs<'_>, document: &[u8]) -> Result<(), Stop> {
+    match write_out(rt, document) {
+        Err(Stop::Refused(Fault::Write)) => Err(outputs.unprinted(rt.alloc())),
+        done => done,
     }
-    Ok(())
 }
 
-// Whether each file that is asked for can be written, and takes the place of no source, nor of another.
-fn try_files(rt: &HostRuntime, words: &RaceWords<'_>, files: &[&str]) -> Result<(), Stop> {
-    for name in [words.write_waivers, words.html, words.vcd] {
-        try_file(rt, name)?;
-        keep_sources(rt, name, files)?;
-    }
-    keep_apart(rt, words)
-}
-
-// Writes what was told, and the file of waivers where one is asked for.
+// Writes the files that are asked for, and then what was told.
 fn write_answer(
     rt: &HostRuntime,
     words: &RaceWords<'_>,
@@ -517,12 +458,11 @@ fn write_answer(
         verdict,
     } = answer;
     let document = tops.document(VERSION)?;
-    let waivers = waivers.text()?;
-    if let Some(name) = words.write_waivers {
-        write_file(rt, name, &waivers)?;
-    }
-    write_pictures(rt, words, page, dump)?;
-    write_out(rt, &document)?;
+    let is_dumped = dump.is_some();
+    let mut outputs = told_outputs(rt.alloc(), words, waivers, page, dump)?;
+    outputs.write(rt)?;
+    say_undumped(rt, words, is_dumped);
+    write_document(rt, &outputs, &document)?;
     Ok(verdict.code())
 }
 
