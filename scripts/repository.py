@@ -6,10 +6,15 @@ from pathlib import Path
 ROOT = Path(__file__).resolve().parents[1]
 
 
+def listed():
+    """Each crate's name, in the order of crates.txt, with all libraries that it lists there."""
+    lines = (line.split("#")[0].split(":") for line in (ROOT / "crates.txt").read_text().splitlines())
+    return {words[0].split()[0]: words[1].split() for words in lines if len(words) == 2}
+
+
 def crates():
     """Each crate's name, lowest first, with the crates of this repository that it uses."""
-    lines = (line.split("#")[0].split(":") for line in (ROOT / "crates.txt").read_text().splitlines())
-    uses = {words[0].split()[0]: words[1].split() for words in lines if len(words) == 2}
+    uses = listed()
     order = []
 
     def put(name):
