@@ -71,7 +71,7 @@ enum Stage {
     Gone,
 }
 
-// A file that is to be written: its name, and its text; where there is none, a file that is there is to go.
+// A file that is to be written: its name, and its text; where there is none, a dump that is there is to go.
 #[derive(Drop)]
 struct Output<'a> {
     name: &'a str,
@@ -237,7 +237,8 @@ fn remove(rt: &HostRuntime, name: &str) -> Result<(), Trouble> {
     }
 }
 
-// Puts a text that stands beside in its place, or removes what stands there.
+// Puts a text that stands beside in its place. Where there is none, a dump of an earlier call goes, as it would be taken for that of this
+// call; any other file stays.
 fn placed(rt: &HostRuntime, name: &str, stage: &Stage) -> Result<Stage, Trouble> {
     match stage {
         Stage::Beside(beside) => {
@@ -245,6 +246,9 @@ fn placed(rt: &HostRuntime, name: &str, stage: &Stage) -> Result<Stage, Trouble>
             Ok(Stage::New)
         }
         _ => {
+            if !is_own_dump(rt, name) {
+                return Ok(Stage::Old);
+            }
             remove(rt, name)?;
             Ok(Stage::Gone)
         }
@@ -310,7 +314,7 @@ impl<'a> Outputs<'a> {
         }
     }
 
-    /// One more file, with its text; where there is none, a file that is there is to go.
+    /// One more file, with its text; where there is none, a dump of the program that is there is to go.
     pub fn put(&mut self, name: &'a str, text: Option<Vec<u8>>) -> Result<(), NoMemory> {
         self.outputs.push(Output {
             name,
