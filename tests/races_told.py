@@ -2,7 +2,7 @@
 import re
 from dataclasses import dataclass
 
-NAME = r"(\S+) is .* at (\w+)|what is printed at (\w+) is .*"
+NAME = r"(\S+) is .* at (\w+)|prints .* at (\w+)"
 
 
 @dataclass

@@ -161,9 +161,9 @@ static OF_RUNS: [Explanation; 4] = [
     },
     Explanation {
         number: 404,
-        meaning: "a number out of its limit; of races, a time that isn't digits and a unit; of check, in the head of a report: a greater until or more steps than --until and --steps allow",
-        example: "--steps 0, --depart 5, --workers 65, --seconds 1000001; of races --until 10",
-        advice: "look at docs/LANGUAGE.md, Limits; write a time as 10us; a report that asks for more takes longer to check: allow as much, or explore anew with less",
+        meaning: "a number out of its limit; of races, a word that is no time; of check, in the head of a report: a greater until or more steps than --until and --steps allow",
+        example: "--steps 0, --depart 5, --workers 65, --seconds 1000001; of races --until 10x",
+        advice: "look at docs/LANGUAGE.md, Limits; write a time as 10us or 1.5ns; a report that asks for more takes longer to check: allow as much, or explore anew with less",
     },
 ];
 
@@ -202,7 +202,7 @@ static OF_REPORTS: [Explanation; 6] = [
         number: 506,
         meaning: "a line of the file of waivers is no waiver; at 3 is the number of that line, from 1",
         example: "tb.v:10 tb.v:12 without a reason behind #",
-        advice: "write FILE:LINE FILE:LINE # reason or variable PATTERN # reason; docs/CI.md has the form under Waivers",
+        advice: "write FILE:LINE FILE:LINE # reason, variable PATTERN # reason or ends TOP CAUSE:TIME CAUSE:TIME # reason; docs/CI.md has the forms under Waivers",
     },
 ];
 

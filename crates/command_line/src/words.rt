@@ -19,7 +19,8 @@ pub const VERSION: &str = "0.1.0";
 #[derive(Drop)]
 pub struct Request<'a> {
     pub top: Option<&'a str>,
-    pub until: u64,
+    /// The last time to which runs go, as it is written.
+    pub until: Option<&'a str>,
     pub steps: u64,
     pub grain: Grain,
     pub departures: Departures,
@@ -63,9 +64,9 @@ const TOP: Row = Row {
 
 const UNTIL: Row = Row {
     name: "until",
-    takes: Takes::Number,
+    takes: Takes::Word("TIME"),
     default: Some("1000000"),
-    help: "The latest time, in units of the precision",
+    help: "The latest time, in units of the precision, or with a unit, as 10us",
 };
 
 const DEPART: Row = Row {
@@ -114,7 +115,7 @@ const PROGRESS: Row = Row {
     name: "progress",
     takes: Takes::Nothing,
     default: None,
-    help: "Shows on standard error how far such a search has come",
+    help: "Shows on standard error how far such a search has come; in a file or a pipe a line each ten seconds",
 };
 
 // Help on `--memory`.
@@ -213,7 +214,8 @@ static RACES: [Row; 20] = [
         name: "until",
         takes: Takes::Word("TIME"),
         default: None,
-        help: "The latest time with its unit, one of s, ms, us, ns, ps and fs, as 10us; where nothing is said there is none",
+        help: "The latest time, in units of the precision, or with a unit, s, ms, us, ns, ps or fs, as 10us; where nothing is said there \
+            is none",
     },
     DEPART,
     Row {
@@ -246,7 +248,7 @@ static RACES: [Row; 20] = [
         name: "ignore-before",
         takes: Takes::Word("TIME"),
         default: None,
-        help: "The time with its unit, as 10us, before which differences are only counted",
+        help: "The time before which differences are only counted, in units of the precision, or with a unit, as 10us",
     },
     Row {
         name: "all",
@@ -300,12 +302,18 @@ static RACES: [Row; 20] = [
     PROGRESS,
 ];
 
-static MATCH: [Row; 11] = [
+static MATCH: [Row; 12] = [
     Row {
         name: "vcd",
         takes: Takes::Needed("DUMP"),
         default: None,
         help: "The value change dump that another simulator wrote of these files",
+    },
+    Row {
+        name: "scope",
+        takes: Takes::Word("PATH=PATH"),
+        default: None,
+        help: "A scope of the dump, and the one of the files that it is compared with, as tb.dut=fifo_driven.dut",
     },
     Row {
         name: "slot-depart",
@@ -344,6 +352,63 @@ static MATCH: [Row; 11] = [
     PROGRESS,
 ];
 
+static DRIVE: [Row; 9] = [
+    Row {
+        name: "vcd",
+        takes: Takes::Needed("DUMP"),
+        default: None,
+        help: "The value change dump that has the inputs of the module",
+    },
+    Row {
+        name: "scope",
+        takes: Takes::Word("PATH"),
+        default: None,
+        help: "The scope of the dump that has them, as tb.dut; where nothing is said, the one that has each of them",
+    },
+    Row {
+        name: "top",
+        takes: Takes::Word("N"),
+        default: None,
+        help: "The module that is driven; where nothing is said, the one that no other instantiates",
+    },
+    Row {
+        name: "clock",
+        takes: Takes::Words("NAME"),
+        default: None,
+        help: "An input that is a clock, beside those that are found: it is written by =, before the others of its time",
+    },
+    Row {
+        name: "async",
+        takes: Takes::Words("NAME"),
+        default: None,
+        help: "An input that is written by = in a process of its own, so that each order with the clocks is searched",
+    },
+    Row {
+        name: "declared",
+        takes: Takes::Words("NAME"),
+        default: None,
+        help: "An input whose first value stands in its declaration",
+    },
+    Row {
+        name: "param",
+        takes: Takes::Words("NAME=VALUE"),
+        default: None,
+        help: "The value of a parameter of the module, a number of Verilog",
+    },
+    Row {
+        name: "from",
+        takes: Takes::Word("TIME"),
+        default: None,
+        help: "The first time of the dump that is driven, in units of the precision, or with a unit, as 10us",
+    },
+    Row {
+        name: "to",
+        takes: Takes::Word("TIME"),
+        default: None,
+        help: "The last time of the dump that is driven",
+    },
+];
+
 static CHECK: [Row; 4] = [
     Row {
         name: "report",
@@ -353,9 +418,9 @@ static CHECK: [Row; 4] = [
     },
     Row {
         name: "until",
-        takes: Takes::Number,
+        takes: Takes::Word("TIME"),
         default: Some("4611686018427387903"),
-        help: "The greatest time limit that the report may ask for, in units of the precision",
+        help: "The greatest time limit that the report may ask for, in units of the precision, or with a unit, as 10us",
     },
     Row {
         name: "steps",
@@ -453,6 +518,22 @@ fn with_command<'a>(
     Ok(all.subcommand(command(alloc, name, about, options)?)?)
 }
 
+// The command that writes a testbench; its file is named behind a letter.
+fn drive_command<'a>(alloc: Global) -> Result<Command<'a>, NoMemory> {
+    let about =
+        "Writes a testbench that drives a module as another simulator's dump has its inputs";
+    let output = Arg::new(alloc, "output")
+        .short('o')
+        .value_names(&["FILE"])
+        .help("The file that it is written to; where nothing is said, standard output");
+    Ok(command(alloc, "drive", about, &DRIVE)?.arg(output)?)
+}
+
+// With that command.
+fn with_drive<'a>(alloc: Global, all: Command<'a>) -> Result<Command<'a>, NoMemory> {
+    Ok(all.subcommand(drive_command(alloc)?)?)
+}
+
 // With the commands that read files.
 fn with_files_commands<'a>(alloc: Global, all: Command<'a>) -> Result<Command<'a>, NoMemory> {
     let check = "Runs each log of a report; says ok, or the first item that isn't true";
@@ -464,6 +545,7 @@ fn with_files_commands<'a>(alloc: Global, all: Command<'a>) -> Result<Command<'a
     let replay =
         "Writes the value change dump of the run under a log, or its printed lines, or its steps";
     let all = with_command(alloc, all, "check", check, &CHECK)?;
+    let all = with_drive(alloc, all)?;
     let all = with_command(alloc, all, "explore", explore, &EXPLORE)?;
     let all = with_command(alloc, all, "match", matching, &MATCH)?;
     let all = with_command(alloc, all, "races", races, &RACES)?;
@@ -586,8 +668,8 @@ pub fn report_of<'a>(matches: &ArgMatches<'a>) -> &'a str {
 }
 
 /// The value of `--until`.
-pub fn until_of(matches: &ArgMatches<'_>) -> u64 {
-    matches.get_one::<u64>("until").unwrap_or(0)
+pub fn until_of<'a>(matches: &ArgMatches<'a>) -> Option<&'a str> {
+    matches.get_str("until")
 }
 
 /// Whether a refusal is told in words.
@@ -822,6 +904,8 @@ fn race_departures_of(matches: &ArgMatches<'_>) -> Departures {
 #[derive(Clone, Copy)]
 pub struct MatchWords<'a> {
     pub dump: &'a str,
+    /// A scope of the dump, and the one of the files that it is compared with.
+    pub scope: Option<&'a str>,
     pub slot_depart: u64,
     pub entries: u64,
     pub allowance: Allowance,
@@ -833,10 +917,16 @@ pub fn has_dashed_dump(matches: &ArgMatches<'_>) -> bool {
     is_dashed(matches, "vcd")
 }
 
+/// Whether the value of `--scope` reads as an option.
+pub fn has_dashed_scope(matches: &ArgMatches<'_>) -> bool {
+    is_dashed(matches, "scope")
+}
+
 /// What the words after `match` ask for alone.
 pub fn match_words_of<'a>(matches: &ArgMatches<'a>) -> MatchWords<'a> {
     MatchWords {
         dump: matches.get_str("vcd").unwrap_or(""),
+        scope: matches.get_str("scope"),
         slot_depart: matches.get_one::<u64>("slot-depart").unwrap_or(0),
         entries: matches.get_one::<u64>("entries").unwrap_or(0),
         allowance: Allowance {
@@ -848,12 +938,73 @@ pub fn match_words_of<'a>(matches: &ArgMatches<'a>) -> MatchWords<'a> {
     }
 }
 
+/// What the words after `drive` ask for: the dump and the scope in it, the module, its inputs that are clocks, those that have a process of
+/// their own and those that are declared with a value, values of parameters as `NAME=VALUE`, the times between which the dump is driven, and the
+/// file that is written.
+#[derive(Drop)]
+pub struct DriveWords<'a> {
+    pub dump: &'a str,
+    pub scope: Option<&'a str>,
+    pub top: Option<&'a str>,
+    pub clocks: Vec<&'a str>,
+    pub alone: Vec<&'a str>,
+    pub declared: Vec<&'a str>,
+    pub parameters: Vec<&'a str>,
+    pub from: Option<&'a str>,
+    pub to: Option<&'a str>,
+    pub output: Option<&'a str>,
+    /// None: standard input.
+    pub files: Vec<&'a str>,
+}
+
+// Whether a value of an option that may be given more than once reads as an option.
+fn has_dashed(matches: &ArgMatches<'_>, name: &str) -> bool {
+    match matches.get_strs(name) {
+        None => false,
+        Some(values) => has_option(values),
+    }
+}
+
+/// Whether a value of an option of `drive` reads as an option.
+pub fn has_dashed_drive(matches: &ArgMatches<'_>) -> bool {
+    is_dashed(matches, "vcd")
+        || is_dashed(matches, "scope")
+        || is_dashed(matches, "top")
+        || is_dashed(matches, "from")
+        || is_dashed(matches, "to")
+        || is_dashed(matches, "output")
+        || has_dashed(matches, "clock")
+        || has_dashed(matches, "async")
+        || has_dashed(matches, "declared")
+        || has_dashed(matches, "param")
+}
+
+/// What the words after `drive` ask for.
+pub fn drive_words_of<'a>(
+    alloc: Global,
+    matches: &ArgMatches<'a>,
+) -> Result<DriveWords<'a>, NoMemory> {
+    Ok(DriveWords {
+        dump: matches.get_str("vcd").unwrap_or(""),
+        scope: matches.get_str("scope"),
+        top: matches.get_str("top"),
+        clocks: values_of(alloc, matches, "clock")?,
+        alone: values_of(alloc, matches, "async")?,
+        declared: values_of(alloc, matches, "declared")?,
+        parameters: values_of(alloc, matches, "param")?,
+        from: matches.get_str("from"),
+        to: matches.get_str("to"),
+        output: matches.get_str("output"),
+        files: files_of(alloc, matches)?,
+    })
+}
+
 /// What the words after `match` ask for, with no limit of time.
 pub fn match_request_of<'a>(
     alloc: Global,
     matches: &ArgMatches<'a>,
 ) -> Result<Request<'a>, NoMemory> {
-    request_in(alloc, matches, 0, race_departures_of(matches), true)
+    request_in(alloc, matches, None, race_departures_of(matches), true)
 }
 
 /// What the words after `races` ask for, but for the time and the top modules.
@@ -861,7 +1012,7 @@ pub fn race_request_of<'a>(
     alloc: Global,
     matches: &ArgMatches<'a>,
 ) -> Result<Request<'a>, NoMemory> {
-    request_in(alloc, matches, 0, race_departures_of(matches), true)
+    request_in(alloc, matches, None, race_departures_of(matches), true)
 }
 
 // Which departures there are.
@@ -889,7 +1040,7 @@ pub fn request_of<'a>(alloc: Global, matches: &ArgMatches<'a>) -> Result<Request
 fn request_in<'a>(
     alloc: Global,
     matches: &ArgMatches<'a>,
-    until: u64,
+    until: Option<&'a str>,
     departures: Departures,
     in_words: bool,
 ) -> Result<Request<'a>, NoMemory> {

@@ -1,22 +1,25 @@
 //! Explores a board of so many squares by 4, or by so many as a third word says, with so many departures at most, so that its
 //! instructions can be counted and its answers compared; a fourth and a fifth word limit the steps of a run and the entries.
-//! With a sixth word above 0 so many workers explore it, with the word `ranked` `explore_ranked`, else `explore_alone`; with a
-//! seventh each mark is written with how many departures its log has; an eighth stops a search by rank once so many entries were
-//! taken. In go the numbers as words; out come the number of marks and the status, the marks in order, and how far a search by rank
-//! came. Without words nothing is run. No law is claimed.
+//! With a sixth word above 0 so many workers explore it, with the word `ranked` `explore_ranked`, with `held` two workers, of which one
+//! is held; else `explore_alone`. With a seventh each mark is written with how many departures its log has; an eighth stops a search by
+//! rank once so many entries were taken. In go the numbers as words; out come the number of marks and the status, the marks in order, and
+//! how far a search by rank came, or whether the worker that isn't held did. Without words nothing is run. No law is claimed.
 #![tactic(auto)]
 
 ghost use Rattle.std.specs.Prelude.{◌≤◌};
 
 mod by_rank;
+mod gates;
+mod held;
 mod kept;
 mod marks;
 
 use crate::by_rank::explore_by_rank;
-use crate::marks::show_marks;
+use crate::held::explore_held;
+use crate::marks::show_findings;
 use anyhow::{Context, Result};
 use basis::NoMemory;
-use explore::{Findings, Reason, Status, explore, explore_alone};
+use explore::{Findings, explore, explore_alone};
 use sched_core::{Grid, Square};
 use statebook::Limits;
 use std::alloc::Global;
@@ -49,21 +52,11 @@ fn search<R: Threads + Wait + Sync>(
     explore(rt, alloc, grid, limits, workers, &OpenGate)
 }
 
-// Whether the word at the place says that the search goes by rank.
-fn is_ranked(words: &[String], place: usize) -> bool {
-    match words.get(place) {
-        Some(word) => word.as_str() == "ranked",
-        None => false,
-    }
-}
-
-// How the search ended.
-fn status_word(status: Status) -> &'static str {
-    match status {
-        Status::Exhausted => "exhausted",
-        Status::Cut(Reason::Entries) => "cut by entries",
-        Status::Cut(Reason::Steps) => "cut by steps",
-        Status::Cut(Reason::Memory(_)) => "cut by memory",
+// The word that says how the board is searched; none is the empty one.
+fn way(words: &[String]) -> &str {
+    match words.get(6) {
+        Some(word) => word.as_str(),
+        None => "",
     }
 }
 
@@ -78,21 +71,17 @@ fn main(rt: HostRuntime) -> Result<()> {
     let entries = number(&words, 5, 1_000_000)?;
     let limits = Limits::new(depart, steps, entries).context("limits")?;
     let lists = words.len() > 7;
-    if is_ranked(&words, 6) {
+    if way(&words) == "ranked" {
         let most = number(&words, 8, u32::MAX)?;
         return explore_by_rank(&rt, rt.alloc(), &grid, &limits, lists, most);
+    }
+    if way(&words) == "held" {
+        return explore_held(&rt, rt.alloc(), &grid, &limits, lists);
     }
     let workers = number(&words, 6, 0)?.min(64);
     let findings = search(&rt, rt.alloc(), &grid, &limits, workers as usize)
         .ok()
         .context("memory")?;
-    println!(rt;
-        "{} marks, {}",
-        findings.marks.len(),
-        status_word(findings.status)
-    )?;
-    if lists {
-        show_marks(&rt, &findings.marks)?;
-    }
+    show_findings(&rt, &findings, lists)?;
     Ok(())
 }

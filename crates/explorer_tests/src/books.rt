@@ -1,7 +1,7 @@
-// The book of an exploration, and its limits.
+// The book of an exploration.
 
 use sched_core::{Log, Square};
-use statebook::{Done, Entry, Limits, Met, PlainBook};
+use statebook::{Done, Entry, Met, PlainBook};
 use std::alloc::Global;
 use std::test::Fail;
 
@@ -47,12 +47,4 @@ fn finished_root_closes(rt: HostRuntime) -> Result<(), Fail> {
     };
     assert!(rt; book.finish(again).is_err());
     Ok(())
-}
-
-#[test]
-fn limits_at_their_edges(rt: HostRuntime) {
-    assert!(rt; Limits::new(4, 1_000_000, 1_000_000).is_some());
-    assert!(rt; Limits::new(5, 1, 1).is_none());
-    assert!(rt; Limits::new(0, 0, 1).is_none());
-    assert!(rt; Limits::new(0, 1, 1_000_001).is_none());
 }

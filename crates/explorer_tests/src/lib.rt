@@ -7,10 +7,6 @@ mod books;
 #[cfg(test)]
 mod devices;
 #[cfg(test)]
-mod gates;
-#[cfg(test)]
-mod logs;
-#[cfg(test)]
 mod searches;
 #[cfg(test)]
 mod shared_books;

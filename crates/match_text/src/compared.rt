@@ -43,15 +43,15 @@ fn put_scope(text: &mut Vec<u8>, scope: Option<&[u8]>) -> Result<(), NoMemory> {
 /// A line: how many variables were compared, and which stand in one of both alone, or in both with another width.
 pub fn put_compared(text: &mut Vec<u8>, found: &Found<'_>) -> Result<(), NoMemory> {
     let compared = found.compared;
-    let count = Piece::Count(compared.pairs.len() as u64, b"variable");
+    let count = Piece::Count(compared.variables as u64, b"variable");
     put_all(
         text,
         &[Piece::Bytes(b"Compared: "), count, Piece::Bytes(b".")],
     )?;
-    put_names(text, b" In the dump alone:", &compared.only_in_dump)?;
-    put_names(text, b" In the files alone:", &compared.only_in_files)?;
-    put_names(text, b" Of another width:", &compared.of_other_width)?;
-    put_names(text, b" More than once in the dump:", &compared.repeated)?;
-    put_scope(text, compared.left_out.as_deref())?;
+    put_names(text, b" In the dump alone:", compared.only_in_dump)?;
+    put_names(text, b" In the files alone:", compared.only_in_files)?;
+    put_names(text, b" Of another width:", compared.of_other_width)?;
+    put_names(text, b" More than once in the dump:", compared.repeated)?;
+    put_scope(text, compared.left_out)?;
     put(text, b"\n")
 }

@@ -2,15 +2,23 @@
 
 use crate::told::{Departure, Found};
 use basis::NoMemory;
-use race_facts::{put_other_order, put_statements, put_time};
+use finding_text::{put_other_order, put_statements, put_time};
+use race_findings::RacingStatement;
 use race_words::{Piece, put, put_all};
 use std::alloc::Global;
 
+// Whether both are told as the same statement: the step of one action, with the same statement behind it.
+fn is_told_alike(one: &RacingStatement, other: &RacingStatement) -> bool {
+    one.action == other.action
+        && one.statement == other.statement
+        && one.is_update == other.is_update
+}
+
 // Whether both take the same two statements the same way, or of both it isn't known which.
 fn is_alike(one: &Departure, other: &Departure) -> bool {
-    match (&one.cause, &other.cause) {
+    match (&one.statements, &other.statements) {
         (Some(one), Some(other)) => {
-            one.first.place == other.first.place && one.second.place == other.second.place
+            is_told_alike(&one.first, &other.first) && is_told_alike(&one.second, &other.second)
         }
         (None, None) => true,
         _ => false,
@@ -41,13 +49,13 @@ fn count_alike<'d>(later: &'d [Departure], departure: &'d Departure) -> (u64, &'
 }
 
 // `: line 12 first`, and the two statements; the step, where they aren't known.
-fn put_cause(
+fn put_both(
     alloc: Global,
     text: &mut Vec<u8>,
     found: &Found<'_>,
     departure: &Departure,
 ) -> Result<(), NoMemory> {
-    let Some(cause) = &departure.cause else {
+    let Some(statements) = &departure.statements else {
         let step = Piece::Number(u64::from(departure.step));
         return put_all(
             text,
@@ -55,9 +63,9 @@ fn put_cause(
         );
     };
     put(text, b": ")?;
-    put_other_order(text, found.sources, cause)?;
+    put_other_order(text, found.setting.design, found.sources, statements)?;
     put(text, b"\n")?;
-    put_statements(alloc, text, found.machine.design(), found.sources, cause)
+    put_statements(alloc, text, found.setting.design, found.sources, statements)
 }
 
 // `    and so 27 times more, the last at 115ns`
@@ -79,7 +87,7 @@ fn put_again(
             Piece::Bytes(b" more, the last at "),
         ],
     )?;
-    put_time(text, found.machine, last.time)?;
+    put_time(text, found.setting.design, last.time)?;
     put(text, b"\n")
 }
 
@@ -102,8 +110,8 @@ fn put_departure(
             Piece::Bytes(b" at "),
         ],
     )?;
-    put_time(text, found.machine, departure.time)?;
-    put_cause(alloc, text, found, departure)?;
+    put_time(text, found.setting.design, departure.time)?;
+    put_both(alloc, text, found, departure)?;
     put_again(text, found, count, last)
 }
 

@@ -2,14 +2,12 @@
 
 use crate::told::{Departure, Found};
 use basis::NoMemory;
-use dump_match::{Comparison, Differing};
-use matching::{Cut, Explanation, Matching, Unexplained};
-use race_facts::{end_word, precision_of, statement_of, value_words};
+use finding_text::{end_word, named_instances, precision_of, statement_in, value_words};
+use race_findings::{Compared, Differing, FoundRun, MatchAnswer, SearchCut};
 use race_words::{Items, Members, document};
 use serde_json::Value;
 use std::alloc::Global;
 use vdesign::design::Design;
-use vmachine::MachineState;
 
 // Names as strings.
 fn names_of(alloc: Global, names: &[Vec<u8>]) -> Result<Value, NoMemory> {
@@ -21,14 +19,14 @@ fn names_of(alloc: Global, names: &[Vec<u8>]) -> Result<Value, NoMemory> {
 }
 
 // What was compared, and what stands in one of both alone.
-fn compared_of(alloc: Global, compared: &Comparison) -> Result<Value, NoMemory> {
+fn compared_of(alloc: Global, compared: Compared<'_>) -> Result<Value, NoMemory> {
     let mut members = Members::new(alloc);
-    members.number("variables", compared.pairs.len() as u64);
-    members.try_value("only_in_dump", names_of(alloc, &compared.only_in_dump));
-    members.try_value("only_in_files", names_of(alloc, &compared.only_in_files));
-    members.try_value("other_width", names_of(alloc, &compared.of_other_width));
-    members.try_value("repeated", names_of(alloc, &compared.repeated));
-    if let Some(scope) = &compared.left_out {
+    members.number("variables", compared.variables as u64);
+    members.try_value("only_in_dump", names_of(alloc, compared.only_in_dump));
+    members.try_value("only_in_files", names_of(alloc, compared.only_in_files));
+    members.try_value("other_width", names_of(alloc, compared.of_other_width));
+    members.try_value("repeated", names_of(alloc, compared.repeated));
+    if let Some(scope) = compared.left_out {
         members.text("left_out", scope);
     }
     members.whole()
@@ -43,11 +41,13 @@ fn departure_of(
     let mut members = Members::new(alloc);
     members.number("step", u64::from(departure.step));
     members.number("time", departure.time);
-    if let Some(cause) = &departure.cause {
-        let (design, things) = (found.machine.design(), cause.things.as_slice());
-        let first = statement_of(alloc, design, found.sources, &cause.second, things);
+    if let Some(statements) = &departure.statements {
+        let (design, touched) = (found.setting.design, statements.touched.as_slice());
+        let sources = found.sources;
+        let (one, other) = named_instances(design, sources, statements);
+        let first = statement_in(alloc, design, sources, &statements.first, touched, one);
         members.try_value("first", first);
-        let second = statement_of(alloc, design, found.sources, &cause.first, things);
+        let second = statement_in(alloc, design, sources, &statements.second, touched, other);
         members.try_value("second", second);
     }
     members.whole()
@@ -77,29 +77,19 @@ fn differing_of(alloc: Global, design: &Design, differing: &Differing) -> Result
 fn all_differing(alloc: Global, found: &Found<'_>) -> Result<Value, NoMemory> {
     let mut list = Items::new(alloc);
     for differing in found.differing {
-        list.try_value(differing_of(alloc, found.machine.design(), differing));
+        list.try_value(differing_of(alloc, found.setting.design, differing));
     }
     list.whole()
 }
 
 // The log of a run.
-fn put_log(
-    alloc: Global,
-    members: &mut Members,
-    found: &Found<'_>,
-    run: &Explanation<MachineState>,
-) {
-    members.made_text("log", found.log(alloc, &run.log));
+fn put_log(alloc: Global, members: &mut Members, found: &Found<'_>, run: FoundRun<'_>) {
+    members.made_text("log", found.log(alloc, run.log));
     members.number("steps", u64::from(run.steps));
 }
 
 // A run has the values of the dump.
-fn put_explained(
-    alloc: Global,
-    members: &mut Members,
-    found: &Found<'_>,
-    run: &Explanation<MachineState>,
-) {
+fn put_explained(alloc: Global, members: &mut Members, found: &Found<'_>, run: FoundRun<'_>) {
     members.text("status", b"explained");
     members.number("time", found.last);
     put_log(alloc, members, found, run);
@@ -111,11 +101,12 @@ fn put_unexplained(
     alloc: Global,
     members: &mut Members,
     found: &Found<'_>,
-    answer: &Unexplained<MachineState>,
+    time: u64,
+    nearest: Option<FoundRun<'_>>,
 ) {
     members.text("status", b"unexplained");
-    members.number("time", answer.time);
-    if let Some(run) = &answer.nearest {
+    members.number("time", time);
+    if let Some(run) = nearest {
         put_log(alloc, members, found, run);
         members.try_value("differing", all_differing(alloc, found));
     }
@@ -124,20 +115,20 @@ fn put_unexplained(
         members.text("ends_by", end_word(end.cause));
     }
     if let Some(cut) = found.beyond {
-        members.text("beyond", found.cut_by(cut.reason));
+        members.text("beyond", found.cut_by(cut));
     }
 }
 
 // The search was cut.
-fn put_cut(members: &mut Members, found: &Found<'_>, cut: &Cut) {
+fn put_cut(members: &mut Members, found: &Found<'_>, cut: SearchCut) {
     members.text("status", b"cut");
-    members.text("cut_by", found.cut_by(cut.reason));
+    members.text("cut_by", found.cut_by(cut));
     members.value("closed", Value::from(cut.closed));
 }
 
 // The answer.
 fn put_answer(alloc: Global, members: &mut Members, found: &Found<'_>) {
-    if found.compared.pairs.is_empty() {
+    if found.compared.variables == 0 {
         members.text("status", b"unrelated");
         return;
     }
@@ -146,19 +137,22 @@ fn put_answer(alloc: Global, members: &mut Members, found: &Found<'_>) {
         return;
     }
     match found.answer {
-        Matching::Explained(run) => put_explained(alloc, members, found, run),
-        Matching::Unexplained(answer) => put_unexplained(alloc, members, found, answer),
-        Matching::Cut(cut) => put_cut(members, found, cut),
+        MatchAnswer::Explained(run) => put_explained(alloc, members, found, run),
+        MatchAnswer::Unexplained(time, nearest) => {
+            put_unexplained(alloc, members, found, time, nearest)
+        }
+        MatchAnswer::Cut(cut) => put_cut(members, found, cut),
     }
 }
 
 /// What was found, as a JSON document.
 pub fn match_json(alloc: Global, found: &Found<'_>) -> Result<Vec<u8>, NoMemory> {
+    let design = found.setting.design;
     let mut members = Members::new(alloc);
     members.number("version", 1);
     members.text("dump", found.dump.as_bytes());
-    members.text("top", &found.machine.design().top);
-    members.made_text("precision", precision_of(alloc, found.machine));
+    members.text("top", &design.top);
+    members.made_text("precision", precision_of(alloc, design));
     members.number("slot_departures", u64::from(found.most));
     members.try_value("compared", compared_of(alloc, found.compared));
     put_answer(alloc, &mut members, found);

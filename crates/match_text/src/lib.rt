@@ -7,9 +7,11 @@
 mod compared;
 mod departures;
 mod json;
+mod levels;
 mod told;
 mod whole;
 
 pub use json::match_json;
+pub use levels::{Refuted, level_words};
 pub use told::{Departure, Found};
 pub use whole::match_words;

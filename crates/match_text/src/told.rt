@@ -1,15 +1,11 @@
 // What is told.
 
 use basis::NoMemory;
-use cause::Cause;
-use dump_match::{Comparison, Differing};
-use explore::RankedReason;
-use matching::{Cut, Matching};
-use race_facts::{Sources, log_text};
+use finding_text::{Sources, log_text};
+use race_findings::{Compared, CutBy, Differing, MatchAnswer, SearchCut, Setting, Statements};
 use sched_core::Log;
 use sched_core::end::End;
 use std::alloc::Global;
-use vmachine::{Machine, MachineState};
 
 /// A departure of the run that explains a dump: its step, the time of its slot, and which two statements come in another order by it,
 /// where that is known.
@@ -17,10 +13,10 @@ use vmachine::{Machine, MachineState};
 pub struct Departure {
     pub step: u32,
     pub time: u64,
-    pub cause: Option<Cause>,
+    pub statements: Option<Statements>,
 }
 
-/// What is told of a comparison: the machine and its files, the name of the dump, what of it was compared, how many departures a slot
+/// What is told of a comparison: of which runs and files, the name of the dump, what of it was compared, how many departures a slot
 /// may have, up to which time the dump was read, and what was found.
 ///
 /// `beyond` is what cut the search with one departure more a slot, where no run explains the dump with `most` of them and more were
@@ -31,14 +27,14 @@ pub struct Departure {
 /// watcher stopped it; `full_by` by which one there may be no more states.
 #[derive(Clone, Copy)]
 pub struct Found<'a> {
-    pub machine: &'a Machine,
+    pub setting: Setting<'a>,
     pub sources: &'a Sources<'a>,
     pub dump: &'a str,
-    pub compared: &'a Comparison,
+    pub compared: Compared<'a>,
     pub most: u32,
     pub last: u64,
-    pub answer: &'a Matching<MachineState>,
-    pub beyond: Option<Cut>,
+    pub answer: MatchAnswer<'a>,
+    pub beyond: Option<SearchCut>,
     pub departures: &'a [Departure],
     pub differing: &'a [Differing],
     pub end: Option<End>,
@@ -56,17 +52,17 @@ impl<'a> Found<'a> {
     }
 
     /// By which option a search was cut; `memory` where a growth was refused.
-    pub fn cut_by(&self, reason: RankedReason) -> &'static [u8] {
-        match reason {
-            RankedReason::Memory(_) => b"memory",
-            RankedReason::Entries => self.full_by,
-            RankedReason::Steps => b"--steps",
-            RankedReason::Stopped => self.stopped_by,
+    pub fn cut_by(&self, cut: SearchCut) -> &'static [u8] {
+        match cut.by {
+            CutBy::Memory => b"memory",
+            CutBy::Entries => self.full_by,
+            CutBy::Steps => b"--steps",
+            CutBy::Stopped => self.stopped_by,
         }
     }
 
     /// The log as `vrace replay` takes it.
     pub fn log(&self, alloc: Global, log: &Log) -> Result<Vec<u8>, NoMemory> {
-        log_text(alloc, self.machine, log)
+        log_text(alloc, self.setting, log)
     }
 }

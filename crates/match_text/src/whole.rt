@@ -4,15 +4,13 @@ use crate::compared::put_compared;
 use crate::departures::put_departures;
 use crate::told::Found;
 use basis::NoMemory;
-use dump_match::Differing;
-use matching::{Cut, Explanation, Matching, Unexplained};
-use race_facts::{put_end, put_time};
+use finding_text::{put_end, put_time};
+use race_findings::{Differing, FoundRun, MatchAnswer, SearchCut};
 use race_words::{Piece, put, put_all, put_files, put_option, put_value, put_word};
 use sched_core::Log;
 use sched_core::setting::Grain;
 use std::alloc::Global;
 use vdesign::design::Design;
-use vmachine::MachineState;
 
 // How many variables are told that differ.
 const NAMED: usize = 8;
@@ -50,8 +48,9 @@ fn put_command(
         ],
     )?;
     if found.is_top_named {
+        let design = found.setting.design;
         put(text, b" --top")?;
-        put_word(text, &found.machine.design().top)?;
+        put_word(text, &design.top)?;
     }
     put_option(text, b" --until ", until)?;
     if steps > REPLAY_STEPS {
@@ -67,10 +66,10 @@ fn put_replay(
     alloc: Global,
     text: &mut Vec<u8>,
     found: &Found<'_>,
-    run: &Explanation<MachineState>,
+    run: FoundRun<'_>,
 ) -> Result<(), NoMemory> {
     if run.steps <= ALL_STEPS {
-        return put_command(alloc, text, found, &run.log, found.last, run.steps);
+        return put_command(alloc, text, found, run.log, found.last, run.steps);
     }
     let until = match found.departures.last() {
         None => 0,
@@ -84,7 +83,7 @@ fn put_replay(
             Piece::Bytes(b" steps, more than `vrace replay` takes. Up to its last departure:\n"),
         ],
     )?;
-    put_command(alloc, text, found, &run.log, until, run.steps)
+    put_command(alloc, text, found, run.log, until, run.steps)
 }
 
 // How many departures the run has.
@@ -112,12 +111,12 @@ fn put_shown(
     time: u64,
 ) -> Result<(), NoMemory> {
     put(text, words)?;
-    put_time(text, found.machine, time)?;
+    put_time(text, found.setting.design, time)?;
     put_all(
         text,
         &[
             Piece::Bytes(b" "),
-            Piece::Bytes(found.dump.as_bytes()),
+            Piece::Cut(found.dump.as_bytes(), usize::MAX),
             Piece::Bytes(b" shows what these files do in one of their orders.\n"),
         ],
     )
@@ -128,7 +127,7 @@ fn put_explained(
     alloc: Global,
     text: &mut Vec<u8>,
     found: &Found<'_>,
-    run: &Explanation<MachineState>,
+    run: FoundRun<'_>,
 ) -> Result<(), NoMemory> {
     put_shown(text, found, b"explained: up to ", found.last)?;
     put_departed(text, found.departures.len(), found.most)?;
@@ -178,7 +177,7 @@ fn put_ended(text: &mut Vec<u8>, found: &Found<'_>) -> Result<(), NoMemory> {
         return Ok(());
     }
     put(text, b"    it ends by ")?;
-    put_end(text, found.machine, found.end)?;
+    put_end(text, found.setting.design, found.end)?;
     put(text, b"\n")
 }
 
@@ -188,23 +187,23 @@ fn put_nearest(
     text: &mut Vec<u8>,
     found: &Found<'_>,
     time: u64,
-    run: &Explanation<MachineState>,
+    run: FoundRun<'_>,
 ) -> Result<(), NoMemory> {
     put(text, b"The run that differs least:\n")?;
-    put_command(alloc, text, found, &run.log, time, run.steps)?;
+    put_command(alloc, text, found, run.log, time, run.steps)?;
     put_ended(text, found)?;
-    put_all_differing(text, found.machine.design(), found.differing)
+    put_all_differing(text, found.setting.design, found.differing)
 }
 
 // `at 25 no order of these files gives what t.vcd shows, with at most 2 departures in a slot`
 fn put_refuted(text: &mut Vec<u8>, found: &Found<'_>, time: u64) -> Result<(), NoMemory> {
     put(text, b"at ")?;
-    put_time(text, found.machine, time)?;
+    put_time(text, found.setting.design, time)?;
     put_all(
         text,
         &[
             Piece::Bytes(b" no order of these files gives what "),
-            Piece::Bytes(found.dump.as_bytes()),
+            Piece::Cut(found.dump.as_bytes(), usize::MAX),
             Piece::Bytes(b" shows, with at most "),
             Piece::Count(u64::from(found.most), b"departure"),
             Piece::Bytes(b" in a slot"),
@@ -230,7 +229,7 @@ fn put_verdict(text: &mut Vec<u8>, found: &Found<'_>, time: u64) -> Result<(), N
     if let Some(cut) = found.beyond {
         put(text, b"not decided: ")?;
         put_refuted(text, found, time)?;
-        put_beyond(text, found.most, found.cut_by(cut.reason))?;
+        put_beyond(text, found.most, found.cut_by(cut))?;
     } else {
         put(text, b"not explained: ")?;
         put_refuted(text, found, time)?;
@@ -246,7 +245,7 @@ fn put_verdict(text: &mut Vec<u8>, found: &Found<'_>, time: u64) -> Result<(), N
 // What may be tried next where all that is allowed was tried: more departures, or the other grain.
 fn put_hints(text: &mut Vec<u8>, found: &Found<'_>) -> Result<(), NoMemory> {
     let more = u64::from(found.most).saturating_add(1);
-    let is_coarse = found.machine.grain() == Grain::Process;
+    let is_coarse = found.setting.grain == Grain::Process;
     if found.beyond.is_some() || (found.most >= MOST && !is_coarse) {
         return Ok(());
     }
@@ -266,12 +265,12 @@ fn put_short(text: &mut Vec<u8>, found: &Found<'_>, time: u64) -> Result<(), NoM
         return Ok(());
     }
     put(text, b"At ")?;
-    put_time(text, found.machine, time)?;
+    put_time(text, found.setting.design, time)?;
     put_all(
         text,
         &[
             Piece::Bytes(b" "),
-            Piece::Bytes(found.dump.as_bytes()),
+            Piece::Cut(found.dump.as_bytes(), usize::MAX),
             Piece::Bytes(b" ends: it may have been cut short there.\n"),
         ],
     )
@@ -282,19 +281,20 @@ fn put_unexplained(
     alloc: Global,
     text: &mut Vec<u8>,
     found: &Found<'_>,
-    answer: &Unexplained<MachineState>,
+    time: u64,
+    nearest: Option<FoundRun<'_>>,
 ) -> Result<(), NoMemory> {
-    put_verdict(text, found, answer.time)?;
-    if let Some(run) = &answer.nearest {
-        put_nearest(alloc, text, found, answer.time, run)?;
+    put_verdict(text, found, time)?;
+    if let Some(run) = nearest {
+        put_nearest(alloc, text, found, time, run)?;
     }
-    put_short(text, found, answer.time)?;
+    put_short(text, found, time)?;
     put_hints(text, found)
 }
 
 // The search was cut.
-fn put_cut(text: &mut Vec<u8>, found: &Found<'_>, cut: &Cut) -> Result<(), NoMemory> {
-    let reason = Piece::Bytes(found.cut_by(cut.reason));
+fn put_cut(text: &mut Vec<u8>, found: &Found<'_>, cut: SearchCut) -> Result<(), NoMemory> {
+    let reason = Piece::Bytes(found.cut_by(cut));
     let words = Piece::Bytes(b"not decided: the search was cut by ");
     put_all(text, &[words, reason, Piece::Bytes(b".\n")])?;
     match cut.closed {
@@ -305,16 +305,18 @@ fn put_cut(text: &mut Vec<u8>, found: &Found<'_>, cut: &Cut) -> Result<(), NoMem
 
 // The answer.
 fn put_answer(alloc: Global, text: &mut Vec<u8>, found: &Found<'_>) -> Result<(), NoMemory> {
-    if found.compared.pairs.is_empty() {
+    if found.compared.variables == 0 {
         return put(text, UNRELATED);
     }
     if found.is_of_nothing() {
         return put(text, EMPTY);
     }
     match found.answer {
-        Matching::Explained(run) => put_explained(alloc, text, found, run),
-        Matching::Unexplained(answer) => put_unexplained(alloc, text, found, answer),
-        Matching::Cut(cut) => put_cut(text, found, cut),
+        MatchAnswer::Explained(run) => put_explained(alloc, text, found, run),
+        MatchAnswer::Unexplained(time, nearest) => {
+            put_unexplained(alloc, text, found, time, nearest)
+        }
+        MatchAnswer::Cut(cut) => put_cut(text, found, cut),
     }
 }
 

@@ -2,47 +2,12 @@
 
 use basis::NoMemory;
 use explore::FoundMark;
+use race_findings::Apart;
 use sched_core::bag::Bag;
 use sched_core::end::End;
 use std::alloc::Global;
 use vbits::Vec4;
 use vmachine::{Machine, MachineState};
-
-/// What two ends differ in: in time or cause, in the values of these variables, in the lines of the last slot.
-#[derive(Drop)]
-pub struct Apart {
-    pub in_end: bool,
-    pub variables: Vec<usize>,
-    pub in_lines: bool,
-}
-
-/// Of what two ends differ in, that which is told first: a verdict is mostly a printed line, so lines come before values.
-#[derive(Clone, Copy)]
-pub enum Foremost {
-    End,
-    Lines,
-    Variable(usize),
-}
-
-impl Apart {
-    /// What is told first.
-    pub fn foremost(&self) -> Foremost {
-        match self.variables.first() {
-            _ if self.in_end => Foremost::End,
-            Some(number) if !self.in_lines => Foremost::Variable(*number),
-            _ => Foremost::Lines,
-        }
-    }
-
-    /// The variables that are told behind that.
-    pub fn others(&self) -> &[usize] {
-        match self.foremost() {
-            Foremost::End => &[],
-            Foremost::Lines => self.variables.as_slice(),
-            Foremost::Variable(_) => self.variables.get(1..).unwrap_or(&[]),
-        }
-    }
-}
 
 // Whether two ends are the same.
 fn is_same_end(one: Option<End>, other: Option<End>) -> bool {
@@ -81,8 +46,8 @@ fn variables_apart(alloc: Global, one: &[Vec4], other: &[Vec4]) -> Result<Vec<us
     Ok(apart)
 }
 
-// What the states of two ends differ in.
-fn apart_in(
+/// What the states of two ends differ in.
+pub fn apart_in(
     alloc: Global,
     machine: &Machine,
     one: &MachineState,
@@ -95,14 +60,18 @@ fn apart_in(
     })
 }
 
-/// What the first two of these ends differ in; none where there are no two.
+/// What the first two of these ends differ in; where there are no two, in their time or cause alone.
 pub fn apart_of(
     alloc: Global,
     machine: &Machine,
     ends: &[FoundMark<MachineState>],
-) -> Result<Option<Apart>, NoMemory> {
+) -> Result<Apart, NoMemory> {
     match (ends.get(0), ends.get(1)) {
-        (Some(one), Some(other)) => Ok(Some(apart_in(alloc, machine, &one.state, &other.state)?)),
-        _ => Ok(None),
+        (Some(one), Some(other)) => apart_in(alloc, machine, &one.state, &other.state),
+        _ => Ok(Apart {
+            in_end: true,
+            variables: Vec::new(alloc),
+            in_lines: false,
+        }),
     }
 }

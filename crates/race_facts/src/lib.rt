@@ -1,23 +1,23 @@
-// What is told of one race: where its statements stand and what they do, in which values, lines or ends its runs differ, and under which
-// logs. In go a group of races with its machine and files; out come its words, and its members of a JSON document. No law is claimed:
-// how it is told the cases in tests/cases compare.
+// What is told of races and of matches, as plain data (`race_findings`). In go the groups of a search, or the answer of a comparison with a
+// dump, and the machine whose runs they are of; out come findings, with what its runs show when they are run again: when two statements
+// race, what they change of what is printed, and which action ends a run. No law is claimed: how it is told the cases in tests/cases compare.
 #![tactic(auto)]
 
-pub mod apart;
-pub mod connection;
-pub mod difference;
-pub mod facts;
-pub mod json_side;
-pub mod json_statement;
-pub mod place;
-pub mod replayed;
-pub mod statements;
-pub mod time;
+mod apart;
+mod difference;
+mod finding;
+mod joined;
+mod matched;
+mod others;
+mod places;
+mod printed;
+mod reach;
+mod replayed;
+mod statements;
 
-pub use connection::{port_of, put_port};
-pub use difference::put_end;
-pub use json_side::{end_word, log_text, value_words};
-pub use json_statement::{precision_of, statement_of};
-pub use place::Sources;
-pub use statements::{put_other_order, put_statements};
-pub use time::put_time;
+pub use difference::cut_values_of;
+pub use finding::findings_of;
+pub use matched::{answer_of, compared_of, cut_of, differing_of};
+pub use places::{places_of, setting_of};
+pub use reach::reach_of;
+pub use statements::statements_of;

@@ -1,10 +1,13 @@
 -- What a search for races tells, by what it was handed on.
 use Rattle.std.specs.Prelude.{⊤}
-use Rattle.std.proofs.Common.{◌≡◌, ℕ, ◌<◌, ◌≤◌, Bool, true, false, List, [], ◌∷◌, length, slice_get, None, Option, Some, IfSome, refl, sym}
-use Rattle.std.proofs.Common.{ap, ◌∙◌, subst, inl, inr, arith}
+use Rattle.std.proofs.Common.{◌≡◌, ◌≢◌, ◌⊎◌, ◌++◌, ℕ, ◌<◌, ◌≤◌, Bool, true, false, List, [], ◌∷◌, length, slice_get, None, Option, Some}
+use Rattle.std.proofs.Common.{IfSome, refl, sym, ap, ◌∙◌, subst, inl, inr, arith, if◌then◌else◌}
 use Rattle.std.specs.List.{Contains}
 use Rattle.std.proofs.lemmas.Bool.{cases_lt}
-use Rattle.std.proofs.lemmas.List.{length-map}
+use Rattle.std.proofs.lemmas.List.{length-map, map-append}
+use Rattle.std.proofs.lemmas.List.Elements.{Contains-append_cases, Contains-append_left, Contains-append_right}
+use Rattle.vbits.specs.Vectors.{Vector}
+use Rattle.sched_core.specs.declared.end.End.{End}
 use Rattle.std.proofs.lemmas.Option.{IfSome_then, same_Some}
 use Rattle.std.specs.declared.cmp.Ordering.TheVariants.{Less, Equal}
 use Rattle.std.proofs.lemmas.Cmp.{tied_itself}
@@ -16,7 +19,7 @@ use Rattle.sched_core.specs.Replay.{EndsAfter}
 use Rattle.sched_core.specs.Rules.{IsRun, stands}
 use Rattle.statebook.specs.declared.limits.Limits.{Limits}
 use Rattle.explore.specs.Found.{AreFound, IsListedMark}
-use Rattle.explore.specs.Ranked.{Closing, HandsOn, HandsOnAllTo, WasHandedOn, pairs_of}
+use Rattle.explore.specs.Ranked.{Closing, HandsOn, HandsOnAllTo, OfEach, WasHandedOn, pairs_of}
 use Rattle.explore.specs.declared.rank_marks.FoundMark.{FoundMark}
 use Rattle.explore.specs.declared.ranked_findings.RankedFindings.{RankedFindings}
 use Rattle.explore.specs.declared.ranked_findings.RankedStatus.TheVariants.{Exhausted}
@@ -27,7 +30,6 @@ use Rattle.vmodel.specs.RulesLaws.{lawful}
 use Rattle.vmodel.specs.RunProgress.{width_is}
 use Rattle.vmachine.specs.declared.machine_state.MachineState.{MachineState}
 use Rattle.vmachine.specs.Machines.{Stands, machine_rules, rank_of}
-use Rattle.vmachine.specs.Reads.{end_in}
 use Rattle.racebook.specs.Races.{IsRace, Race, TwoRunsDiffer}
 use Rattle.racebook.specs.LineRaces.{IsLineRace, LineRace, TwoRunsPrint}
 use Rattle.racebook.specs.InTime.{EachEnd, IsClosed, IsEndOfRun}
@@ -44,29 +46,45 @@ use Rattle.race_groups.specs.declared.group.Difference.TheVariants.{Values, Line
 use Rattle.race_groups.specs.declared.group.Group.{Group}
 use Rattle.race_groups.specs.declared.group.Name.{Name}
 use Rattle.race_groups.specs.declared.group.Scope.{Scope}
-use Rattle.race_groups.specs.Found.{AllAreCounted, AllSummarize, EachGroup, EndsAlike, HasFirstDifference, HasItsCause, HasLogOfFirst}
-use Rattle.race_groups.specs.Found.{IsDifference, IsNameInOne, IsClosedFrom, IsInTime, IsTimeOfRun, LacksOnlyNoCause, NoneDiffer, NoneIsCut}
-use Rattle.race_groups.specs.Found.{NoneIsMadeUp, TwoEndsDiffer, TwoRunsDifferIn, name_of}
-use Rattle.race_groups.specs.Inner.{AreGroupsOf, AreTold, CollectsGroups, IsLastSeen, IsShownBy, KeepsGroups, Shape, TellsEnds, GroupHead}
-use Rattle.race_groups.specs.Inner.{Tracing, shape_of, group_head, group_heads, traced_by}
-use Rattle.race_groups.proofs.ListLemmas.{at_most_one, nothing_in, to_map}
+use Rattle.race_groups.specs.Found.{AllAreCounted, AllCutAlike, AllEndsAgree, EachGroup, EndsAgree, HasFirstDifference, HasItsCause}
+use Rattle.race_groups.specs.Found.{HasLogOfFirst, IsDifference, IsNameInOne, IsClosedFrom, IsInTime, IsTimeOfRun, LacksOnlyNoCause, NoneDiffer, NoneIsCut}
+use Rattle.race_groups.specs.Found.{NoneEnds, NoneIsMadeUp, TellsNoEnds, TwoCutsDiffer, TwoEndsDiffer, TwoRunsDifferIn, Verdict, cut_values_by}
+use Rattle.race_groups.specs.Found.{name_of, verdict_by}
+use Rattle.race_groups.specs.Inner.{AreCutsOf, AreCutsTold, AreGroupsOf, AreTold, CollectsGroups, IsEndOfSome, IsGroupOfEnds, IsLastSeen}
+use Rattle.race_groups.specs.Inner.{IsShownBy, KeepsGroups, TellsEnds, GroupHead, Tracing, compared_end, cut_values_in, group_head}
+use Rattle.race_groups.specs.Inner.{group_heads, is_in_cut, traced_by, verdict_in}
+use Rattle.race_groups.proofs.KeptLemmas.{told_all, told_each}
+use Rattle.race_groups.proofs.ListLemmas.{at_most_one, no_image, nothing_in, to_map}
 
 abbrev Pair : Type 0
 Pair = MachineState × List (ℕ × ℕ)
 
--- two of one shape, in which runs have ended, are alike
-alike_ends : (t u : State) → length (choices t) ≡ 0 → length (choices u) ≡ 0 → shape_of t ≡ shape_of u → EndsAlike t u
-alike_ends t u end end' same = record {
-  end = same_Some (end_of t) (end_of u) (sym (told_where_ended t end) ∙ ap (λ (s : Shape). s.end) same ∙ told_where_ended u end');
-  values = ap (λ (s : Shape). s.values) same;
-  printed = ap (λ (s : Shape). s.printed) same;
-}
+-- what is compared of the end, where the machine tells this of it
+abbrev verdict_at : Option End → State → Verdict
+verdict_at end t = record { end = compared_end end; printed = if is_in_cut end then t.printed else None }
+
+abbrev cut_values_at : Option End → State → List Vector
+cut_values_at end t = if is_in_cut end then t.values else []
+
+-- where a run has ended, it is what its end says
+verdict_is : (t : State) → length (choices t) ≡ 0 → verdict_in t ≡ verdict_by (end_of t) t
+verdict_is t ended = ap (λ (o : Option End). verdict_at o t) (told_where_ended t ended)
+
+cut_values_are : (t : State) → length (choices t) ≡ 0 → cut_values_in t ≡ cut_values_by (end_of t) t
+cut_values_are t ended = ap (λ (o : Option End). cut_values_at o t) (told_where_ended t ended)
+
+-- two of one verdict, in which runs have ended, are alike
+alike_ends : (t u : State) → length (choices t) ≡ 0 → length (choices u) ≡ 0 → verdict_in t ≡ verdict_in u → EndsAgree t u
+alike_ends t u end end' same = sym (verdict_is t end) ∙ same ∙ verdict_is u end'
 
 -- and the other way round
-shape_alike : (t u : State) → length (choices t) ≡ 0 → length (choices u) ≡ 0 → EndsAlike t u → shape_of t ≡ shape_of u
-shape_alike t u end end' same =
-    let e : end_in t ≡ end_in u = told_where_ended t end ∙ ap Some same.end ∙ sym (told_where_ended u end') in
-    λ i. record { end = e i; values = same.values i; printed = same.printed i }
+verdict_alike : (t u : State) → length (choices t) ≡ 0 → length (choices u) ≡ 0 → EndsAgree t u → verdict_in t ≡ verdict_in u
+verdict_alike t u end end' same = verdict_is t end ∙ same ∙ sym (verdict_is u end')
+
+-- a list that isn't empty has a first element
+first_of : {A : Type 0} (xs : List A) → xs ≢ [] → (x : A) × (slice_get xs 0 ≡ Some x)
+first_of [] some = absurd (some refl)
+first_of (x ∷ xs) some = (x, refl)
 
 -- causes are looked for within the limit of steps
 abbrev pub tracing_in : Setting → Limits → Tracing
@@ -303,10 +321,9 @@ module _ (setting : Setting) (alike : Alike setting) (all : AllStand setting) (t
     named_once = hands.collected.all.once sound in_turn;
   }
 
-  -- a kept end is one
-  end_is : (end : Pair) → Contains (pairs_of ends) end → IsEndOfRun setting limits end
-  end_is end has =
-      let o = hands.collected.ends end has in
+  -- the end of a closing is one of a run
+  end_of_some : (end : Pair) → IsEndOfSome setting from hands.closings end → IsEndOfRun setting limits end
+  end_of_some end o =
       let m = at_contains o.closing.marks end o.among in
       let f = hands.found o.place o.closing o.at m.0 end m.1 in
       let t = state_of end.1 f.steps in
@@ -318,6 +335,10 @@ module _ (setting : Setting) (alike : Alike setting) (all : AllStand setting) (t
         within = f.within;
         short = f.short;
       }
+
+  -- a kept end is one
+  end_is : (end : Pair) → Contains (pairs_of ends) end → IsEndOfRun setting limits end
+  end_is end has = end_of_some end (hands.collected.ends end has)
 
   no_choice_left : (log : List (ℕ × ℕ)) (steps : ℕ) → EndsAfter (rules_of setting) log steps → length (choices (state_of log steps)) ≡ 0
   no_choice_left log steps after = sym (width_is setting (state_of log steps)) ∙ after.end
@@ -342,7 +363,7 @@ module _ (setting : Setting) (alike : Alike setting) (all : AllStand setting) (t
           other_stands = e'.stands;
           differ = λ same. hands.collected.unlike one.0 other.0 one.1 other.1 (state_of one.0.1 e.steps)
               (state_of other.0.1 e'.steps) e.stands e'.stands
-              (shape_alike (state_of one.0.1 e.steps) (state_of other.0.1 e'.steps) (no_choice_left one.0.1 e.steps e.ends)
+              (verdict_alike (state_of one.0.1 e.steps) (state_of other.0.1 e'.steps) (no_choice_left one.0.1 e.steps e.ends)
               (no_choice_left other.0.1 e'.steps e'.ends) same);
         },
       )
@@ -354,7 +375,63 @@ module _ (setting : Setting) (alike : Alike setting) (all : AllStand setting) (t
       subst (λ (l : List (FoundMark MachineState)). EachEnd (IsEndOfRun setting limits) (pairs_of l) × TwoEndsDiffer setting (pairs_of l))
       (sym tells) (ends_differ two)
 
+  abbrev AreCuts : List (FoundMark MachineState) → Type 0
+  AreCuts cut_ends = AreCutsOf setting from (pairs_of ends) (pairs_of cut_ends) hands.closings
+
+  abbrev both_of : List (FoundMark MachineState) → List Pair
+  both_of cut_ends = pairs_of ends ++ pairs_of cut_ends
+
+  each_cut : (cut_ends : List (FoundMark MachineState)) → AreCuts cut_ends → EachEnd (IsEndOfRun setting limits) (both_of cut_ends)
+  each_cut cut_ends cuts i end at =
+      elim (Contains-append_cases (pairs_of ends) (pairs_of cut_ends) end (contains_at (both_of cut_ends) i end at)) [
+        | inl kept ↦ end_is end kept
+        | inr cut ↦ end_of_some end (cuts.each end cut)
+      ]
+
+  -- of the first end and the first cut end
+  two_cuts : (cut_ends : List (FoundMark MachineState)) → AreCuts cut_ends → (one other : Pair) → slice_get (pairs_of ends) 0 ≡ Some one →
+      slice_get (pairs_of cut_ends) 0 ≡ Some other → TwoCutsDiffer setting (both_of cut_ends)
+  two_cuts cut_ends cuts one other at at' =
+      let has = contains_at (pairs_of ends) 0 one at in
+      let has' = contains_at (pairs_of cut_ends) 0 other at' in
+      let e = end_is one has in
+      let e' = end_of_some other (cuts.each other has') in
+      let t = state_of one.1 e.steps in
+      let u = state_of other.1 e'.steps in
+      let ended = no_choice_left one.1 e.steps e.ends in
+      let ended' = no_choice_left other.1 e'.steps e'.ends in
+      record {
+        one = one;
+        other = other;
+        has_one = Contains-append_left (pairs_of ends) (pairs_of cut_ends) one has;
+        has_other = Contains-append_right (pairs_of ends) (pairs_of cut_ends) other has';
+        state = t;
+        other_state = u;
+        stands = e.stands;
+        other_stands = e'.stands;
+        agree = alike_ends t u ended ended' (cuts.kept.alike one other at at' t u e.stands e'.stands);
+        differ = λ same. cuts.kept.unlike one other at at' t u e.stands e'.stands
+            (cut_values_are t ended ∙ same ∙ sym (cut_values_are u ended'));
+      }
+
+  pub told_cuts : (cut_ends told : List (FoundMark MachineState)) → AreCuts cut_ends → told ≡ ends ++ cut_ends →
+      length (pairs_of ends) ≤ 1 → cut_ends ≢ [] →
+      EachEnd (IsEndOfRun setting limits) (pairs_of told) × TwoCutsDiffer setting (pairs_of told)
+  told_cuts cut_ends told cuts is few some =
+      let list : pairs_of told ≡ both_of cut_ends = ap pairs_of is
+      ∙ map-append (λ (f : FoundMark MachineState). (f.state, f.log)) ends cut_ends in
+      let other = first_of (pairs_of cut_ends) (λ none. some (no_image (λ (f : FoundMark MachineState). (f.state, f.log)) cut_ends none)) in
+      let two : TwoCutsDiffer setting (both_of cut_ends) = elim (at_most_one (pairs_of ends) few) [
+        | inl bare ↦ absurd (some (no_image (λ (f : FoundMark MachineState). (f.state, f.log)) cut_ends (cuts.kept.bare bare)))
+        | inr one ↦ two_cuts cut_ends cuts one.0 other.0 (ap (λ (l : List Pair). slice_get l 0) one.1) other.1
+      ] in
+      subst (λ (l : List Pair). EachEnd (IsEndOfRun setting limits) l × TwoCutsDiffer setting l) (sym list)
+      (each_cut cut_ends cuts, two)
+
   -- ---- where all marks of some times were handed on
+
+  abbrev Unended : Type 0
+  Unended = OfEach hands.closings (λ c. AreEndsOf setting c.marks [])
 
   module _ (Within : ℕ → Type 0)
       (handed : (log : List (ℕ × ℕ)) (steps : ℕ) → length log ≤ limits.depart → IsRun (rules_of setting) log steps →
@@ -428,6 +505,12 @@ module _ (setting : Setting) (alike : Alike setting) (all : AllStand setting) (t
         u.2 h.listed.found (among_ends log steps after h u.0 u.1) t (end_of t) h.stands_so
         (told_where_ended t (no_choice_left log steps after))
 
+    -- nor does any end, where no closing has an end
+    pub none_ends : Unended → NoneEnds setting limits.depart Within
+    none_ends unended log steps short after within =
+        let h = end_in_one log steps short after within in
+        nothing_in h.listed.found (among_ends log steps after h [] (unended h.place h.closing h.at))
+
     module _ (after_from : (time : ℕ) → Within time → from ≤ time) where
       all_values : (time variable : ℕ) → Within time → TwoRunsDiffer setting limits.depart time variable →
           IsNameInOne groups hands.collected.all.rests (record { time = time; variable = Some variable })
@@ -482,7 +565,7 @@ module _ (setting : Setting) (alike : Alike setting) (all : AllStand setting) (t
       -- all are alike the one that is kept
       like_one : (one : Pair) → pairs_of ends ≡ one ∷ [] → (u : State) → Stands setting one.0 u → (log : List (ℕ × ℕ)) (steps : ℕ) →
           length log ≤ limits.depart → EndsAfter (rules_of setting) log steps →
-          Within (state_after setting log steps).queue.time → shape_of (state_after setting log steps) ≡ shape_of u
+          Within (state_after setting log steps).queue.time → verdict_in (state_after setting log steps) ≡ verdict_in u
       like_one one is u st log steps short after within =
           let h = end_in_one log steps short after within in
           let a = hands.collected.alike one is h.place h.closing h.at (late_enough log steps within h) in
@@ -495,10 +578,7 @@ module _ (setting : Setting) (alike : Alike setting) (all : AllStand setting) (t
           let a = hands.collected.no_end none h.place h.closing h.at (late_enough log steps within h) in
           nothing_in h.listed.found (among_ends log steps after h [] a)
 
-      all_ends : length (pairs_of ends) ≤ 1 → (log other : List (ℕ × ℕ)) (steps others : ℕ) → length log ≤ limits.depart →
-          length other ≤ limits.depart → EndsAfter (rules_of setting) log steps → EndsAfter (rules_of setting) other others →
-          Within (state_after setting log steps).queue.time → Within (state_after setting other others).queue.time →
-          EndsAlike (state_after setting log steps) (state_after setting other others)
+      pub all_ends : length (pairs_of ends) ≤ 1 → AllEndsAgree setting limits.depart Within
       all_ends few log other steps others short short' after after' within within' = elim (at_most_one (pairs_of ends) few) [
         | inl none ↦ absurd (no_end_at_all none log steps short after within)
         | inr one ↦
@@ -508,6 +588,31 @@ module _ (setting : Setting) (alike : Alike setting) (all : AllStand setting) (t
             let s' = like_one one.0 one.1 u e.stands other others short' after' within' in
             alike_ends (state_after setting log steps) (state_after setting other others) (no_choice_left log steps after)
             (no_choice_left other others after') (s ∙ sym s')
+      ]
+
+      -- where no cut end is kept, all leave the values of the one that is
+      cut_like : (cut_ends : List (FoundMark MachineState)) → AreCuts cut_ends → cut_ends ≡ [] → (one : Pair) → pairs_of ends ≡ one ∷ [] →
+          (u : State) → Stands setting one.0 u → (log : List (ℕ × ℕ)) (steps : ℕ) → length log ≤ limits.depart →
+          EndsAfter (rules_of setting) log steps → Within (state_after setting log steps).queue.time →
+          cut_values_in (state_after setting log steps) ≡ cut_values_in u
+      cut_like cut_ends cuts none one is u st log steps short after within =
+          let h = end_in_one log steps short after within in
+          let a = cuts.none (ap pairs_of none) one (ap (λ (l : List Pair). slice_get l 0) is) h.place h.closing h.at
+          (late_enough log steps within h) in
+          a.2 h.listed.found (among_ends log steps after h a.0 a.1) (state_after setting log steps) u h.stands_so st
+          (like_one one is u st log steps short after within)
+
+      pub all_cut : length (pairs_of ends) ≤ 1 → (cut_ends : List (FoundMark MachineState)) → AreCuts cut_ends → cut_ends ≡ [] →
+          AllCutAlike setting limits.depart Within
+      all_cut few cut_ends cuts bare log other steps others short short' after after' within within' = elim (at_most_one (pairs_of ends) few) [
+        | inl none ↦ absurd (no_end_at_all none log steps short after within)
+        | inr one ↦
+            let e = end_is one.0 (subst (λ (l : List Pair). Contains l one.0) (sym one.1) (contains_at (one.0 ∷ []) 0 one.0 refl)) in
+            let u = state_after setting one.0.1 e.steps in
+            let s = cut_like cut_ends cuts bare one.0 one.1 u e.stands log steps short after within in
+            let s' = cut_like cut_ends cuts bare one.0 one.1 u e.stands other others short' after' within' in
+            sym (cut_values_are (state_after setting log steps) (no_choice_left log steps after)) ∙ s ∙ sym s'
+            ∙ cut_values_are (state_after setting other others) (no_choice_left other others after')
       ]
 
       none_in : groups ≡ [] → (name : Name) → IsNameInOne groups hands.collected.all.rests name → ⊥
@@ -548,6 +653,28 @@ module _ (setting : Setting) (alike : Alike setting) (all : AllStand setting) (t
   told_throughout none few e =
       none_differ (λ time. from ≤ time) (λ log steps short run mark within. hands.exhausted e log steps short (here log steps run) mark)
       (λ time within. within) none few
+
+  pub ends_to : length (pairs_of ends) ≤ 1 → IfSome seen (λ top. AllEndsAgree setting limits.depart (To top))
+  ends_to few = IfSome_then seen covered_seen (λ top covered.
+      all_ends (To top) (λ log steps short run mark within. handed_to top covered log steps short run mark within.1)
+      (λ time within. within.0) few)
+
+  pub ends_throughout : length (pairs_of ends) ≤ 1 → findings.status ≡ Exhausted → AllEndsAgree setting limits.depart (λ time. from ≤ time)
+  ends_throughout few e =
+      all_ends (λ time. from ≤ time) (λ log steps short run mark within. hands.exhausted e log steps short (here log steps run) mark)
+      (λ time within. within) few
+
+  pub cut_values_to : length (pairs_of ends) ≤ 1 → (cut_ends : List (FoundMark MachineState)) → AreCuts cut_ends → cut_ends ≡ [] →
+      IfSome seen (λ top. AllCutAlike setting limits.depart (To top))
+  cut_values_to few cut_ends cuts none = IfSome_then seen covered_seen (λ top covered.
+      all_cut (To top) (λ log steps short run mark within. handed_to top covered log steps short run mark within.1)
+      (λ time within. within.0) few cut_ends cuts none)
+
+  pub cut_values_throughout : length (pairs_of ends) ≤ 1 → (cut_ends : List (FoundMark MachineState)) → AreCuts cut_ends → cut_ends ≡ [] →
+      findings.status ≡ Exhausted → AllCutAlike setting limits.depart (λ time. from ≤ time)
+  cut_values_throughout few cut_ends cuts none e =
+      all_cut (λ time. from ≤ time) (λ log steps short run mark within. hands.exhausted e log steps short (here log steps run) mark)
+      (λ time within. within) few cut_ends cuts none
 
   -- what was closed was handed on
   handed_closed : (log : List (ℕ × ℕ)) (steps : ℕ) → length log ≤ limits.depart → IsRun (rules_of setting) log steps →
@@ -595,18 +722,47 @@ module _ (setting : Setting) (alike : Alike setting) (all : AllStand setting) (t
   cuts_throughout none e = none_cut (λ time. ⊤) (λ log steps short run mark within. hands.exhausted e log steps short
       (here log steps run) mark) none
 
+  pub no_end_to : Unended → IfSome seen (λ top. NoneEnds setting limits.depart (λ time. time ≤ top))
+  no_end_to unended = IfSome_then seen covered_seen (λ top covered. none_ends (λ time. time ≤ top) (λ log steps short run mark within.
+      (let at = ranked (stands (machine_rules setting) log steps) (state_after setting log steps) (all log steps) in
+      covered log steps short (here log steps run) mark (omega arith))) unended)
+
+  pub no_end_throughout : Unended → findings.status ≡ Exhausted → NoneEnds setting limits.depart (λ time. ⊤)
+  no_end_throughout unended e = none_ends (λ time. ⊤) (λ log steps short run mark within. hands.exhausted e log steps short
+      (here log steps run) mark) unended
+
 -- what was handed on has made this of what is kept
-pub handed_so : (setting : Setting) (limits : Limits) (scope : Scope) (first now : RaceGroups) (findings : RankedFindings) →
+pub kept_so : (setting : Setting) (limits : Limits) (scope : Scope) (first now : RaceGroups) (findings : RankedFindings) →
     traced_by first ≡ tracing_in setting limits → first.scope ≡ scope → KeepsGroups (tracing_in setting limits) scope first [] →
-    HandsOn (machine_rules setting) limits (rank_of setting) (λ closings. CollectsGroups first closings now) findings →
-    HandsOn (machine_rules setting) limits (rank_of setting) (AreGroupsOf (tracing_in setting limits) scope now.groups.items
-    (group_heads now.groups.items) (pairs_of now.ends.items) now.cut_runs now.seen now.refused) findings
-handed_so setting limits scope first now findings is same none hands =
+    (hands : HandsOn (machine_rules setting) limits (rank_of setting) (λ closings. CollectsGroups first closings now) findings) →
+    KeepsGroups (tracing_in setting limits) scope now hands.closings
+kept_so setting limits scope first now findings is same none hands =
     let P : Tracing → Scope → Type 0 = λ t f. KeepsGroups t f first [] → KeepsGroups t f now hands.closings in
     let kept : P (traced_by first) first.scope = hands.collected.kept [] in
+    subst (λ (t : Tracing). P t scope) is (subst (P (traced_by first)) same kept) none
+
+-- and of the groups that are told of it
+unfoldable pub handed_so : (setting : Setting) (limits : Limits) (scope : Scope) (first now : RaceGroups) (findings : RankedFindings)
+    (groups : List Group) → AreTold (tracing_in setting limits) now groups →
+    traced_by first ≡ tracing_in setting limits → first.scope ≡ scope → KeepsGroups (tracing_in setting limits) scope first [] →
+    HandsOn (machine_rules setting) limits (rank_of setting) (λ closings. CollectsGroups first closings now) findings →
+    HandsOn (machine_rules setting) limits (rank_of setting) (AreGroupsOf (tracing_in setting limits) scope groups
+    (group_heads now.groups.items) (pairs_of now.ends.items) now.cut_runs now.seen now.refused) findings
+handed_so setting limits scope first now findings groups tells is same none hands =
+    let kept = (kept_so setting limits scope first now findings is same none hands).groups in
     record {
       closings = hands.closings;
-      collected = subst (λ (t : Tracing). P t scope) is (subst (P (traced_by first)) same kept) none;
+      collected = record {
+        causes = kept.causes;
+        firsts = kept.firsts;
+        all = told_all (tracing_in setting limits) scope now groups hands.closings tells kept.all;
+        ends = kept.ends;
+        no_end = kept.no_end;
+        alike = kept.alike;
+        unlike = kept.unlike;
+        uncut = kept.uncut;
+        last_seen = kept.last_seen;
+      };
       found = hands.found;
       ranks = hands.ranks;
       rise = hands.rise;
@@ -617,8 +773,8 @@ handed_so setting limits scope first now findings is same none hands =
     }
 
 -- all that is told
-pub record IsTold (setting : Setting) (limits : Limits) (scope : Scope) (groups : List Group) (cut : Bool) (seen : Option ℕ)
-    (refused : Option NoMemory) (findings : RankedFindings) : Type 0 where
+pub record IsTold (setting : Setting) (limits : Limits) (scope : Scope) (groups : List Group) (told : List (FoundMark MachineState))
+    (ended cut : Bool) (seen : Option ℕ) (refused : Option NoMemory) (findings : RankedFindings) : Type 0 where
   pub cause : EachGroup (HasItsCause setting) groups
   pub no_cause : EachGroup (LacksOnlyNoCause setting limits) groups
   pub first : EachGroup (HasFirstDifference setting limits) groups
@@ -628,118 +784,134 @@ pub record IsTold (setting : Setting) (limits : Limits) (scope : Scope) (groups 
       (λ time. scope.from ≤ time)
   pub none : groups ≡ [] → IfSome seen (λ top. NoneDiffer setting limits.depart (λ time. (scope.from ≤ time) × (time ≤ top)))
   pub none_exhausted : groups ≡ [] → findings.status ≡ Exhausted → NoneDiffer setting limits.depart (λ time. scope.from ≤ time)
+  pub ends : TellsNoEnds groups → IfSome seen (λ top. AllEndsAgree setting limits.depart (λ time. (scope.from ≤ time) × (time ≤ top)))
+  pub ends_exhausted : TellsNoEnds groups → findings.status ≡ Exhausted →
+      AllEndsAgree setting limits.depart (λ time. scope.from ≤ time)
+  pub cut_ends : (told ≡ []) ⊎ (EachEnd (IsEndOfRun setting limits) (pairs_of told) × TwoCutsDiffer setting (pairs_of told))
+  pub no_cut_ends : TellsNoEnds groups → told ≡ [] →
+      IfSome seen (λ top. AllCutAlike setting limits.depart (λ time. (scope.from ≤ time) × (time ≤ top)))
+  pub no_cut_ends_exhausted : TellsNoEnds groups → told ≡ [] → findings.status ≡ Exhausted →
+      AllCutAlike setting limits.depart (λ time. scope.from ≤ time)
   pub in_time : EachGroup (λ group. IsInTime setting scope.from seen group.first) groups
   pub closed : findings.status ≡ Exhausted → (log : List (ℕ × ℕ)) (steps : ℕ) → length log ≤ limits.depart →
       EndsAfter (rules_of setting) log steps →
       (top : ℕ) × (seen ≡ Some top) × ((state_after setting log steps).queue.time ≤ top)
   pub closed_time : IfSome seen (IsTimeOfRun setting limits)
+  pub no_end : ended ≡ false → IfSome seen (λ top. NoneEnds setting limits.depart (λ time. time ≤ top))
+  pub no_end_exhausted : ended ≡ false → findings.status ≡ Exhausted → NoneEnds setting limits.depart (λ time. ⊤)
   pub cuts : cut ≡ false → IfSome seen (λ top. NoneIsCut setting limits.depart (λ time. time ≤ top))
   pub cuts_exhausted : cut ≡ false → findings.status ≡ Exhausted → NoneIsCut setting limits.depart (λ time. ⊤)
 
 module _ (setting : Setting) (alike : Alike setting) (all : AllStand setting) (there : RunThere setting) (here : RunHere setting)
     (mark_alike : MarkAlike setting) (wide : HasVariables setting) (ranked : RankIsTime setting)
     (limits : Limits) (scope : Scope) (kept : RaceGroups) (findings : RankedFindings)
-    (hands : HandsOn (machine_rules setting) limits (rank_of setting) (AreGroupsOf (tracing_in setting limits) scope kept.groups.items
+    (groups : List Group) (tells : AreTold (tracing_in setting limits) kept groups)
+    (hands : HandsOn (machine_rules setting) limits (rank_of setting) (AreGroupsOf (tracing_in setting limits) scope groups
     (group_heads kept.groups.items) (pairs_of kept.ends.items) kept.cut_runs kept.seen kept.refused) findings)
-    (groups : List Group) (names_are : kept.scope.names ≡ scope.names) (tells : AreTold (tracing_in setting limits) kept groups) where
+    (cuts : AreCutsOf setting scope.from (pairs_of kept.ends.items) (pairs_of kept.cut_ends.items) hands.closings)
+    (unended : kept.ended ≡ false → OfEach hands.closings (λ c. AreEndsOf setting c.marks []))
+    (told : List (FoundMark MachineState)) (tells_cuts : AreCutsTold kept told) where
   abbrev heads : List GroupHead
   heads = group_heads kept.groups.items
 
   abbrev ends : List (FoundMark MachineState)
   ends = kept.ends.items
 
-  no_told : groups ≡ [] → kept.groups.items ≡ []
-  no_told none = (tells.none none).0
+  abbrev each : (group : Group) → Contains groups group →
+      Contains kept.groups.items group ⊎ ((1 < length kept.ends.items) × IsGroupOfEnds (tracing_in setting limits) kept.ends.items group)
+  each = told_each (tracing_in setting limits) kept groups tells
 
-  -- what the groups that were kept count, those that are told do
-  told_counted : (Within : ℕ → Type 0) → AllAreCounted setting limits.depart scope.names kept.groups.items kept.refused Within →
-      AllAreCounted setting limits.depart scope.names groups kept.refused Within
-  told_counted Within all_in = elim tells.whole [
-    | inl same ↦ subst (λ (l : List Group). AllAreCounted setting limits.depart scope.names l kept.refused Within) (sym same) all_in
-    | inr (none, alone) ↦ record {
-      rests = λ place. [];
-      summaries = subst (λ (n : ℕ). AllSummarize n groups (λ place. [])) names_are alone;
-      values = λ time variable within differ. absurd (let is = all_in.values time variable within differ in let at =
-          ap (λ (l : List Group). slice_get l is.0) (sym none) ∙ is.1.at in cc);
-      lines = λ time within differ. absurd (let is = all_in.lines time within differ in let at = ap (λ (l : List Group). slice_get l is.0)
-          (sym none) ∙ is.1.at in cc);
-      none_made_up = λ sound. record {
-        differ = λ i k name is. absurd (let none_there = is.named in cc);
-        named_once = record {
-          once = λ i j k l name one other. absurd (let none_there = one.named in cc);
-          not_first = λ i group name at first has. nothing_in name has;
-        };
-      };
-    }
-  ]
+  long : length (pairs_of ends) ≡ length ends
+  long = length-map ends (λ (f : FoundMark MachineState). (f.state, f.log))
 
-  few : groups ≡ [] → length (pairs_of ends) ≤ 1
-  few none = let e : length (pairs_of ends) ≡ length ends = length-map ends (λ (f : FoundMark MachineState). (f.state, f.log)) in let le =
-      (tells.none none).1 in omega arith
+  few : TellsNoEnds groups → length (pairs_of ends) ≤ 1
+  few none = let le = tells.none none in omega (arith, long, le)
+
+  no_groups : groups ≡ [] → TellsNoEnds groups
+  no_groups none group has is = nothing_in group (subst (λ (l : List Group). Contains l group) none has)
+
+  no_cut_kept : TellsNoEnds groups → told ≡ [] → kept.cut_ends.items ≡ []
+  no_cut_kept none e = tells_cuts.none e (tells.none none)
 
   its_cause : EachGroup (HasItsCause setting) groups
-  its_cause i group at = elim (tells.each group (contains_at groups i group at)) [
+  its_cause i group at = elim (each group (contains_at groups i group at)) [
     | inl old ↦ (hands.collected.causes (group_head group) (to_map group_head kept.groups.items group old)).0.0
     | inr new ↦ new.1.caused.0.0
   ]
 
   its_lack : EachGroup (LacksOnlyNoCause setting limits) groups
-  its_lack i group at = elim (tells.each group (contains_at groups i group at)) [
+  its_lack i group at = elim (each group (contains_at groups i group at)) [
     | inl old ↦ (hands.collected.causes (group_head group) (to_map group_head kept.groups.items group old)).0.1
     | inr new ↦ new.1.caused.0.1
   ]
 
   its_log : EachGroup HasLogOfFirst groups
-  its_log i group at = elim (tells.each group (contains_at groups i group at)) [
+  its_log i group at = elim (each group (contains_at groups i group at)) [
     | inl old ↦ (hands.collected.causes (group_head group) (to_map group_head kept.groups.items group old)).1
     | inr new ↦ new.1.caused.1
   ]
 
   its_first : EachGroup (HasFirstDifference setting limits) groups
-  its_first i group at = elim (tells.each group (contains_at groups i group at)) [
-    | inl old ↦ told_first setting alike all there here mark_alike wide ranked limits scope kept.groups.items heads ends kept.cut_runs
+  its_first i group at = elim (each group (contains_at groups i group at)) [
+    | inl old ↦ told_first setting alike all there here mark_alike wide ranked limits scope groups heads ends kept.cut_runs
         kept.seen kept.refused findings hands (group_head group) (to_map group_head kept.groups.items group old)
     | inr new ↦
-        let e : length (pairs_of ends) ≡ length ends = length-map ends (λ (f : FoundMark MachineState). (f.state, f.log)) in
         let two = new.0 in
-        told_ends setting alike all there here mark_alike wide ranked limits scope kept.groups.items heads ends kept.cut_runs kept.seen
-        kept.refused findings hands group.first new.1.tells (omega arith)
+        told_ends setting alike all there here mark_alike wide ranked limits scope groups heads ends kept.cut_runs kept.seen
+        kept.refused findings hands group.first new.1.tells (omega (arith, long, two))
   ]
 
   its_time : EachGroup (λ group. IsInTime setting scope.from kept.seen group.first) groups
-  its_time i group at = elim (tells.each group (contains_at groups i group at)) [
-    | inl old ↦ told_in_time setting alike all there here mark_alike wide ranked limits scope kept.groups.items heads ends
+  its_time i group at = elim (each group (contains_at groups i group at)) [
+    | inl old ↦ told_in_time setting alike all there here mark_alike wide ranked limits scope groups heads ends
         kept.cut_runs kept.seen
         kept.refused findings hands (group_head group) (to_map group_head kept.groups.items group old)
-    | inr new ↦ ends_in_time setting alike all there here mark_alike wide ranked limits scope kept.groups.items heads ends
+    | inr new ↦ ends_in_time setting alike all there here mark_alike wide ranked limits scope groups heads ends
         kept.cut_runs kept.seen
         kept.refused findings hands group.first new.1.tells
   ]
 
-  pub is_told : IsTold setting limits scope groups kept.cut_runs kept.seen kept.refused findings
+  its_cuts : (told ≡ []) ⊎ (EachEnd (IsEndOfRun setting limits) (pairs_of told) × TwoCutsDiffer setting (pairs_of told))
+  its_cuts = elim tells_cuts.whole [
+    | inl none ↦ inl none
+    | inr (is, le, some) ↦ inr (told_cuts setting alike all there here mark_alike wide ranked limits scope groups heads ends kept.cut_runs
+        kept.seen kept.refused findings hands kept.cut_ends.items told cuts is (omega (arith, long, le)) some)
+  ]
+
+  pub is_told : IsTold setting limits scope groups told kept.ended kept.cut_runs kept.seen kept.refused findings
   is_told = record {
     cause = its_cause;
     no_cause = its_lack;
     first = its_first;
     log = its_log;
-    all = told_counted (IsClosedFrom scope.from kept.seen)
-        (all_to setting alike all there here mark_alike wide ranked limits scope kept.groups.items heads ends
-        kept.cut_runs kept.seen kept.refused
-        findings hands);
-    all_exhausted = λ e. told_counted (λ time. scope.from ≤ time)
-        (all_throughout setting alike all there here mark_alike wide ranked limits scope kept.groups.items heads ends kept.cut_runs
-        kept.seen kept.refused findings hands e);
+    all = all_to setting alike all there here mark_alike wide ranked limits scope groups heads ends kept.cut_runs kept.seen kept.refused
+        findings hands;
+    all_exhausted = all_throughout setting alike all there here mark_alike wide ranked limits scope groups heads ends kept.cut_runs
+        kept.seen kept.refused findings hands;
     in_time = its_time;
-    closed = ends_closed setting alike all there here mark_alike wide ranked limits scope kept.groups.items heads ends kept.cut_runs
+    closed = ends_closed setting alike all there here mark_alike wide ranked limits scope groups heads ends kept.cut_runs
         kept.seen kept.refused findings hands;
-    closed_time = time_of_run setting alike all there here mark_alike wide ranked limits scope kept.groups.items heads ends kept.cut_runs
+    closed_time = time_of_run setting alike all there here mark_alike wide ranked limits scope groups heads ends kept.cut_runs
         kept.seen kept.refused findings hands;
-    none = λ e. told_to setting alike all there here mark_alike wide ranked limits scope kept.groups.items heads ends kept.cut_runs
-        kept.seen kept.refused findings hands (no_told e) (few e);
-    none_exhausted = λ e. told_throughout setting alike all there here mark_alike wide ranked limits scope kept.groups.items heads ends
-        kept.cut_runs kept.seen kept.refused findings hands (no_told e) (few e);
-    cuts = cuts_to setting alike all there here mark_alike wide ranked limits scope kept.groups.items heads ends kept.cut_runs kept.seen
+    none = λ e. told_to setting alike all there here mark_alike wide ranked limits scope groups heads ends kept.cut_runs
+        kept.seen kept.refused findings hands e (few (no_groups e));
+    none_exhausted = λ e. told_throughout setting alike all there here mark_alike wide ranked limits scope groups heads ends
+        kept.cut_runs kept.seen kept.refused findings hands e (few (no_groups e));
+    ends = λ none. ends_to setting alike all there here mark_alike wide ranked limits scope groups heads ends kept.cut_runs
+        kept.seen kept.refused findings hands (few none);
+    ends_exhausted = λ none. ends_throughout setting alike all there here mark_alike wide ranked limits scope groups heads ends
+        kept.cut_runs kept.seen kept.refused findings hands (few none);
+    cut_ends = its_cuts;
+    no_cut_ends = λ none e. cut_values_to setting alike all there here mark_alike wide ranked limits scope groups heads ends kept.cut_runs
+        kept.seen kept.refused findings hands (few none) kept.cut_ends.items cuts (no_cut_kept none e);
+    no_cut_ends_exhausted = λ none e. cut_values_throughout setting alike all there here mark_alike wide ranked limits scope groups heads
+        ends kept.cut_runs kept.seen kept.refused findings hands (few none) kept.cut_ends.items cuts (no_cut_kept none e);
+    no_end = λ e. no_end_to setting alike all there here mark_alike wide ranked limits scope groups heads ends kept.cut_runs kept.seen
+        kept.refused findings hands (unended e);
+    no_end_exhausted = λ e. no_end_throughout setting alike all there here mark_alike wide ranked limits scope groups heads ends
+        kept.cut_runs kept.seen kept.refused findings hands (unended e);
+    cuts = cuts_to setting alike all there here mark_alike wide ranked limits scope groups heads ends kept.cut_runs kept.seen
         kept.refused findings hands;
-    cuts_exhausted = cuts_throughout setting alike all there here mark_alike wide ranked limits scope kept.groups.items heads ends
+    cuts_exhausted = cuts_throughout setting alike all there here mark_alike wide ranked limits scope groups heads ends
         kept.cut_runs kept.seen kept.refused findings hands;
   }

@@ -1,10 +1,10 @@
 -- What is kept of closed slots, once one more was closed.
-use Rattle.std.proofs.Common.{◌≡◌, ◌≢◌, ℕ, zero, suc, ◌<◌, ◌≤◌, Bool, false, List, [], ◌∷◌, ◌++◌, length, map, slice_get, take, None}
+use Rattle.std.proofs.Common.{◌≡◌, ◌≢◌, ◌⊎◌, ℕ, ◌<◌, ◌≤◌, Bool, false, List, [], ◌∷◌, ◌++◌, length, map, slice_get, take, None}
 use Rattle.std.proofs.Common.{Option, Some, Result, Ok, Err, OnErr, refl, sym, ap, ◌∙◌, subst, inl, inr, append-nil, append_assoc, arith}
 use Rattle.std.specs.List.{Contains}
 use Rattle.std.proofs.lemmas.Bool.{cases_lt}
 use Rattle.std.proofs.lemmas.List.Elements.{Contains-append_cases, Contains-append_left, Contains-append_right, Contains-push_cases}
-use Rattle.std.proofs.lemmas.List.{length-map, length_push, nil_from_length, take-map, take_all}
+use Rattle.std.proofs.lemmas.List.{length-map, length_push, nil_from_length, take-map}
 use Rattle.std.proofs.lemmas.Option.{same_Some}
 use Rattle.std.proofs.Math.Seq.{take-append_seam}
 use Rattle.basis.proofs.Lists.{at_contains, last_or_before, listed_place, place_within, stands_in_front, stands_last}
@@ -25,15 +25,16 @@ use Rattle.race_groups.specs.declared.group.Difference.TheVariants.{Values, Line
 use Rattle.race_groups.specs.declared.group.Group.{Group}
 use Rattle.race_groups.specs.declared.group.Name.{Name}
 use Rattle.race_groups.specs.declared.group.Scope.{Scope}
-use Rattle.race_groups.specs.Found.{IsNameInOne, Summarizes, name_of}
-use Rattle.race_groups.specs.Inner.{Adds, AllAlike, AreApartInSlot, AreGroupsOf, AreNamedApart, AreTold, AreUncut, CollectsGroups, Counts}
+use Rattle.race_groups.specs.Found.{IsNameInOne, IsOfEnds, name_of}
+use Rattle.race_groups.specs.Inner.{Adds, AllAlike, AllWhollyAlike, AreApartInSlot, AreCutsOf, AreCutsTold, AreGroupsOf, AreNamedApart}
+use Rattle.race_groups.specs.Inner.{AreTold, AreUncut, CollectsGroups, Counts, IsOpened, KeepsCut, SumsUpCuts}
 use Rattle.race_groups.specs.Inner.{CountsStill, FirstTwoUnlike, GrowsBehind, GrowsTo, HaveAllOf, IsCaused, IsEndOfSome, IsGroupOfEnds}
 use Rattle.race_groups.specs.Inner.{IsLastSeen, IsNamedByOne, IsNamedIn, IsNamedInSlot, IsOfSome, IsShownBy, KeepsGroups, OfEachFrom}
 use Rattle.race_groups.specs.Inner.{OfEnds, ShowsNamed, StaysSo, SumsUp, TakesAll, TakesSlot, TellsEnds, GroupHead, Tracing, differences_in}
 use Rattle.race_groups.specs.Inner.{setting_of, group_head, group_heads, traced_by}
 use Rattle.race_groups.proofs.AddsLemmas.{adds_none, adds_on, adds_weaker}
-use Rattle.race_groups.proofs.CountLemmas.{counts_on, still_on, take_still}
-use Rattle.race_groups.proofs.SumLemmas.{grows_on}
+use Rattle.race_groups.proofs.CountLemmas.{counts_on, open_counts, still_on, take_still}
+use Rattle.race_groups.proofs.SumLemmas.{first_before, grows_on}
 use Rattle.race_groups.proofs.ListLemmas.{from_map, front_of_one, none_in_front, nothing_in}
 
 abbrev Pair : Type 0
@@ -383,6 +384,86 @@ module _ (tracing : Tracing) (scope : Scope) (closings : List (Closing MachineSt
     last_seen = more_last;
   }
 
+-- the same of cut ends
+module _ (setting : Setting) (from : ℕ) (closings : List (Closing MachineState)) (c : Closing MachineState) (found : FoundInSlot)
+    (is : IsFoundIn setting c.marks found) (ends new_ends cuts new_cuts : List Pair)
+    (no_end : ends ≡ [] → OfEachFrom from closings (λ marks. AreEndsOf setting marks []))
+    (kept : AreCutsOf setting from ends cuts closings) (before : c.rank < from → new_ends ≡ ends)
+    (cuts_before : c.rank < from → new_cuts ≡ cuts) (sums : from ≤ c.rank → SumsUp setting (pairs_of found.ends.items) ends new_ends)
+    (sums_cuts : from ≤ c.rank → SumsUpCuts setting (pairs_of found.ends.items) ends new_ends cuts new_cuts) where
+  abbrev to_here : List (Closing MachineState)
+  to_here = closings ++ c ∷ []
+
+  each_cut : (end : Pair) → Contains new_cuts end → IsEndOfSome setting from to_here end
+  each_cut end has = elim (cases_lt c.rank from) [
+    | inl early ↦ end_more setting from closings c end
+        (kept.each end (subst (λ (l : List Pair). Contains l end) (cuts_before early) has))
+    | inr late ↦
+        let s = sums_cuts late in
+        elim (Contains-append_cases cuts s.more end (subst (λ (l : List Pair). Contains l end) s.is has)) [
+          | inl old ↦ end_more setting from closings c end (kept.each end old)
+          | inr new ↦ (let of = is.ends.each end (s.among end new) in record {
+            place = length closings;
+            closing = c;
+            at = stands_last closings c;
+            late = late;
+            among = of.0;
+            ended = of.1;
+          })
+        ]
+  ]
+
+  -- the first end stood there before, if one did
+  was_first : (one : Pair) → slice_get new_ends 0 ≡ Some one → (ends ≡ []) ⊎ (slice_get ends 0 ≡ Some one)
+  was_first one at = elim (cases_lt c.rank from) [
+    | inl early ↦ inr (sym (ap (λ (l : List Pair). slice_get l 0) (before early)) ∙ at)
+    | inr late ↦ first_before ends new_ends (sums late).more one (sums late).is at
+  ]
+
+  had_none : new_cuts ≡ [] → cuts ≡ []
+  had_none none = elim (cases_lt c.rank from) [
+    | inl early ↦ sym (cuts_before early) ∙ none
+    | inr late ↦ none_in_front cuts (sums_cuts late).more (sym (sums_cuts late).is ∙ none)
+  ]
+
+  none_cut : new_cuts ≡ [] → (one : Pair) → slice_get new_ends 0 ≡ Some one → OfEachFrom from to_here
+      (λ marks. OfEnds setting marks (λ list. AllWhollyAlike setting list one))
+  none_cut none one at = each_more closings c (λ d. from ≤ d.rank → OfEnds setting d.marks (λ list. AllWhollyAlike setting list one))
+      (elim (was_first one at) [
+        | inl bare ↦ (λ i d at late. ([], no_end bare i d at late, λ end has. nothing_in end has))
+        | inr there ↦ kept.none (had_none none) one there
+      ])
+      (λ late. (pairs_of found.ends.items, is.ends, (sums_cuts late).none none one at))
+
+  kept_cut : KeepsCut setting new_ends new_cuts
+  kept_cut = elim (cases_lt c.rank from) [
+    | inl early ↦ subst (λ (l : List Pair). KeepsCut setting l new_cuts) (sym (before early))
+        (subst (KeepsCut setting ends) (sym (cuts_before early)) kept.kept)
+    | inr late ↦ (sums_cuts late).kept kept.kept
+  ]
+
+  cuts_more : AreCutsOf setting from new_ends new_cuts to_here
+  cuts_more = record { each = each_cut; none = none_cut; kept = kept_cut }
+
+pub no_cuts : (setting : Setting) (from : ℕ) (ends cuts : List Pair) → ends ≡ [] → cuts ≡ [] → AreCutsOf setting from ends cuts []
+no_cuts setting from ends cuts no_end no_cut = record {
+  each = λ end has. nothing_in end (subst (λ (l : List Pair). Contains l end) no_cut has);
+  none = λ e one at i c at_c. absurd (cc);
+  kept = record {
+    bare = λ e. no_cut;
+    alike = λ one other at at'. absurd (let e = ap (λ (l : List Pair). slice_get l 0) no_end in cc);
+    unlike = λ one other at at'. absurd (let e = ap (λ (l : List Pair). slice_get l 0) no_end in cc);
+  };
+}
+
+-- cut ends that are the same, of the same closings
+same_cuts : (setting : Setting) (from : ℕ) (ends new_ends cuts new_cuts : List (FoundMark MachineState))
+    (closings : List (Closing MachineState)) → AreCutsOf setting from (pairs_of ends) (pairs_of cuts) closings → new_ends ≡ ends →
+    new_cuts ≡ cuts → AreCutsOf setting from (pairs_of new_ends) (pairs_of new_cuts) closings
+same_cuts setting from ends new_ends cuts new_cuts closings are same same_cut =
+    subst (λ (l : List (FoundMark MachineState)). AreCutsOf setting from (pairs_of l) (pairs_of new_cuts) closings) (sym same)
+    (subst (λ (l : List (FoundMark MachineState)). AreCutsOf setting from (pairs_of ends) (pairs_of l) closings) (sym same_cut) are)
+
 pub kept_none : (tracing : Tracing) (scope : Scope) (groups : List Group) (ends : List Pair) → groups ≡ [] → ends ≡ [] →
     AreGroupsOf tracing scope groups (group_heads groups) ends false None None []
 kept_none tracing scope groups ends no_group no_end = record {
@@ -454,11 +535,16 @@ collects_same old new same same_seen gone = λ first closings collected.
     record {
       traced = same.traced ∙ collected.traced;
       scope = same.scope ∙ collected.scope;
-      kept = λ before so. same_kept (traced_by first) first.scope old.groups.items new.groups.items (group_heads old.groups.items)
-          (group_heads new.groups.items) old.ends.items new.ends.items old.cut_runs new.cut_runs old.seen new.seen old.refused new.refused
-          (before ++ closings) (collected.kept before so)
-          (subst (λ (s : Scope). CountsStill s.names old.groups.items new.groups.items) collected.scope same.still)
-          same.groups same.ends same.cut same_seen gone;
+      kept = λ before so. record {
+        groups = same_kept (traced_by first) first.scope old.groups.items new.groups.items (group_heads old.groups.items)
+            (group_heads new.groups.items) old.ends.items new.ends.items old.cut_runs new.cut_runs old.seen new.seen old.refused new.refused
+            (before ++ closings) (collected.kept before so).groups
+            (subst (λ (s : Scope). CountsStill s.names old.groups.items new.groups.items) collected.scope same.still)
+            same.groups same.ends same.cut same_seen gone;
+        cuts = same_cuts (traced_by first).setting first.scope.from old.ends.items new.ends.items old.cut_ends.items new.cut_ends.items
+            (before ++ closings) (collected.kept before so).cuts same.ends same.cut_ends;
+        unended = λ e. (collected.kept before so).unended (same.ended e);
+      };
     }
 
 -- one slot more
@@ -473,12 +559,20 @@ collects_more old new c found of takes none_seen some_seen same_refused = λ fir
     let Q : Tracing → Scope → Type 0 = λ t scope. (before : List (Closing MachineState)) → KeepsGroups t scope first before →
     KeepsGroups t scope new (before ++ (closings ++ c ∷ [])) in
     let behind : Q (traced_by old) old.scope = λ before so.
-    subst (KeepsGroups (traced_by old) old.scope new) (append_assoc before closings (c ∷ []))
-    (kept_more (traced_by old) old.scope (before ++ closings) c found of old.groups.items new.groups.items (group_heads old.groups.items)
-    (group_heads new.groups.items) (pairs_of old.ends.items) (pairs_of new.ends.items) old.cut_runs new.cut_runs old.seen new.seen
-    old.refused new.refused (so_far before so) takes.adds takes.early (λ early. ap group_heads (takes.early early)) takes.counts
-    (λ early. ap pairs_of (takes.before early)) takes.ends takes.cut
-    none_seen some_seen same_refused) in
+    subst (KeepsGroups (traced_by old) old.scope new) (append_assoc before closings (c ∷ [])) (record {
+      groups = kept_more (traced_by old) old.scope (before ++ closings) c found of old.groups.items new.groups.items
+          (group_heads old.groups.items)
+          (group_heads new.groups.items) (pairs_of old.ends.items) (pairs_of new.ends.items) old.cut_runs new.cut_runs old.seen new.seen
+          old.refused new.refused (so_far before so).groups takes.adds takes.early (λ early. ap group_heads (takes.early early)) takes.counts
+          (λ early. ap pairs_of (takes.before early)) takes.ends takes.cut
+          none_seen some_seen same_refused;
+      cuts = cuts_more (setting_of old) old.scope.from (before ++ closings) c found of (pairs_of old.ends.items) (pairs_of new.ends.items)
+          (pairs_of old.cut_ends.items) (pairs_of new.cut_ends.items) (so_far before so).groups.no_end (so_far before so).cuts
+          (λ early. ap pairs_of (takes.before early)) (λ early. ap pairs_of (takes.cuts_before early)) takes.ends takes.cut_ends;
+      unended = λ e. each_more (before ++ closings) c (λ d. AreEndsOf (setting_of old) d.marks [])
+          ((so_far before so).unended (takes.ended e).0)
+          (subst (λ (l : List (FoundMark MachineState)). AreEndsOf (setting_of old) c.marks (pairs_of l)) (takes.ended e).1 of.ends);
+    }) in
     record {
       traced = takes.traced ∙ collected.traced;
       scope = takes.scope ∙ collected.scope;
@@ -491,13 +585,13 @@ collects_no_more now (Err e) = λ first closings collected. collected
 
 -- ---- what is told
 
-pub told_same : (tracing : Tracing) (kept : RaceGroups) → (kept.groups.items ≡ [] → length kept.ends.items ≤ 1) →
-    AreTold tracing kept kept.groups.items
-told_same tracing kept few = record {
-  none = λ e. (e, few e);
-  whole = inl refl;
-  each = λ group has. inl has;
-}
+pub cuts_told : (kept : RaceGroups) (told : List (FoundMark MachineState)) → length kept.ends.items ≤ 1 →
+    (told ≡ [] → kept.cut_ends.items ≡ []) →
+    (told ≢ [] → (told ≡ kept.ends.items ++ kept.cut_ends.items) × (kept.cut_ends.items ≢ [])) → AreCutsTold kept told
+cuts_told kept [] few none some = record { whole = inl refl; none = λ e le. none refl }
+cuts_told kept (x ∷ xs) few none some =
+    let s = some (λ e. absurd (cc)) in
+    record { whole = inr (s.0, few, s.1); none = λ e le. absurd (cc) }
 
 -- ends have no name
 no_name : (ends : List (FoundMark MachineState)) (d : Difference) → TellsEnds ends d → (name : Name) → name_of d ≡ Some name → ⊥
@@ -505,39 +599,66 @@ no_name ends (Values race) tells name is = tells
 no_name ends (Lines race) tells name is = tells
 no_name ends (Ends list) tells name is = absurd cc
 
--- one that tells ends sums up no other difference
-of_ends_summary : (tracing : Tracing) (ends : List (FoundMark MachineState)) (names : ℕ) (group : Group) →
-    IsGroupOfEnds tracing ends group →
-    Summarizes names group []
-of_ends_summary tracing ends names group of = record {
-  next = of.next ∙ sym (take_all names [] (omega arith));
-  more = of.more;
-  last = λ front other e. absurd (let n = length_push front other in let f = ap length e in omega (arith, n, f));
-  alone = λ name e is. absurd (no_name ends group.first of.tells name is);
-}
-
-at_first : {A : Type 0} (x y : A) (i : ℕ) → slice_get (x ∷ []) i ≡ Some y → x ≡ y
-at_first x y zero at = same_Some x y at
-at_first x y (suc i) at = absurd cc
+ends_told : (ends : List (FoundMark MachineState)) (d : Difference) → TellsEnds ends d → IsOfEnds d
+ends_told ends (Values race) tells = tells
+ends_told ends (Lines race) tells = tells
+ends_told ends (Ends list) tells = tt
 
 pub told_of_ends : (tracing : Tracing) (kept : RaceGroups) (groups : List Group) (group : Group) → 1 < length kept.ends.items →
-    kept.groups.items ≡ [] → groups ≡ kept.groups.items ++ group ∷ [] → IsGroupOfEnds tracing kept.ends.items group →
-    AreTold tracing kept groups
-told_of_ends tracing kept groups group two none is of =
-    let here : groups ≡ group ∷ [] = is ∙ ap (λ l. l ++ group ∷ []) none in
+    groups ≡ kept.groups.items ++ group ∷ [] → IsGroupOfEnds tracing kept.ends.items group → AreTold tracing kept groups
+told_of_ends tracing kept groups group two is of = record {
+  none = λ none. absurd (none group (subst (λ (l : List Group). Contains l group) (sym is)
+      (Contains-append_right kept.groups.items (group ∷ []) group (contains_at (group ∷ []) 0 group refl)))
+      (ends_told kept.ends.items group.first of.tells));
+  whole = inr (group, is, two, of);
+}
+
+-- each that is told was kept, or tells ends
+pub told_each : (tracing : Tracing) (kept : RaceGroups) (groups : List Group) → AreTold tracing kept groups → (group : Group) →
+    Contains groups group →
+    Contains kept.groups.items group ⊎ ((1 < length kept.ends.items) × IsGroupOfEnds tracing kept.ends.items group)
+told_each tracing kept groups tells group has = elim tells.whole [
+  | inl same ↦ inl (subst (λ (l : List Group). Contains l group) same has)
+  | inr more ↦ elim (Contains-push_cases kept.groups.items more.0 group (subst (λ (l : List Group). Contains l group) more.1 has)) [
+    | inl old ↦ inl old
+    | inr is ↦ inr (more.2, subst (IsGroupOfEnds tracing kept.ends.items) is more.3)
+  ]
+]
+
+-- a group of ends counts no other difference
+told_more : (setting : Setting) (scope : Scope) (groups new_groups : List Group) (refused : Option NoMemory)
+    (closings : List (Closing MachineState)) (ends : List (FoundMark MachineState)) (tracing : Tracing) (group : Group) →
+    HaveAllOf setting scope groups refused closings → new_groups ≡ groups ++ group ∷ [] → IsGroupOfEnds tracing ends group →
+    HaveAllOf setting scope new_groups refused closings
+told_more setting scope groups new_groups refused closings ends tracing group all is of =
+    let opened : IsOpened group.first group groups new_groups = record {
+      is = is;
+      first = refl;
+      next = of.next;
+      more = of.more;
+      last = λ name named. absurd (no_name ends group.first of.tells name named);
+    } in
+    let m = open_counts scope.names group.first groups new_groups group opened all.rests all.summaries in
     record {
-      none = λ e. absurd (let f = sym here ∙ e in cc);
-      whole = inr (
-        none,
-        λ i g at. (let same = at_first group g i (ap (λ (l : List Group). slice_get l i) (sym here) ∙ at) in
-            subst (λ (h : Group). Summarizes kept.scope.names h []) same
-            (of_ends_summary tracing kept.ends.items kept.scope.names group of)),
-      );
-      each = λ g has. elim (Contains-push_cases [] group g (subst (λ (l : List Group). Contains l g) here has)) [
-        | inl nowhere ↦ nothing_in g nowhere
-        | inr same ↦ inr (two, subst (IsGroupOfEnds tracing kept.ends.items) same of)
+      rests = m.after;
+      summaries = m.summaries;
+      shown = λ i d at late. still_named setting (IsNameInOne groups all.rests) (IsNameInOne new_groups m.after) d.marks
+          (λ n has. (has.0, m.still has.0 n has.1)) (all.shown i d at late);
+      only = λ sound name has. elim (m.only name has) [
+        | inl was ↦ all.only sound name was
+        | inr new ↦ absurd (no_name ends group.first of.tells name new)
       ];
+      once = λ sound turn. m.once (λ name new was. no_name ends group.first of.tells name new) (all.once sound turn);
     }
+
+pub told_all : (tracing : Tracing) (scope : Scope) (kept : RaceGroups) (groups : List Group) (closings : List (Closing MachineState)) →
+    AreTold tracing kept groups → HaveAllOf tracing.setting scope kept.groups.items kept.refused closings →
+    HaveAllOf tracing.setting scope groups kept.refused closings
+told_all tracing scope kept groups closings tells have = elim tells.whole [
+  | inl same ↦ subst (λ (l : List Group). HaveAllOf tracing.setting scope l kept.refused closings) (sym same) have
+  | inr more ↦ told_more tracing.setting scope kept.groups.items groups kept.refused closings kept.ends.items tracing more.0 have more.1
+      more.3
+]
 
 -- ---- one slot is taken
 
@@ -545,13 +666,15 @@ told_of_ends tracing kept groups group two none is of =
 pub takes_all : (found : FoundInSlot) (races : List Race) (line_races : List LineRace) (old new : RaceGroups) (mid : List Group)
     (here there : Tracing) (last : Setting) → races ≡ found.races.items → line_races ≡ found.line_races.items → here ≡ traced_by old →
     there ≡ traced_by old → last ≡ setting_of old → traced_by new ≡ traced_by old → new.scope ≡ old.scope →
-    new.cut_runs ≡ old.cut_runs → Adds here (Contains (map Values races)) (group_heads old.groups.items) (group_heads mid) →
+    new.ended ≡ old.ended → new.cut_runs ≡ old.cut_runs → Adds here (Contains (map Values races)) (group_heads old.groups.items) (group_heads mid) →
     (AreNamedApart Values races → Counts old.scope.names (IsNamedIn Values races (length races)) old.groups.items mid) →
     Adds there (Contains (map Lines line_races)) (group_heads mid) (group_heads new.groups.items) →
     (AreNamedApart Lines line_races → Counts old.scope.names (IsNamedIn Lines line_races (length line_races)) mid new.groups.items) →
-    SumsUp last (pairs_of found.ends.items) (pairs_of old.ends.items) (pairs_of new.ends.items) → TakesAll found old new
-takes_all found races line_races old new mid here there last races_are lines_are here_is there_is last_is traced scope cut one count_one
-    other count_other sums =
+    SumsUp last (pairs_of found.ends.items) (pairs_of old.ends.items) (pairs_of new.ends.items) →
+    SumsUpCuts last (pairs_of found.ends.items) (pairs_of old.ends.items) (pairs_of new.ends.items) (pairs_of old.cut_ends.items)
+    (pairs_of new.cut_ends.items) → TakesAll found old new
+takes_all found races line_races old new mid here there last races_are lines_are here_is there_is last_is traced scope ended cut one
+    count_one other count_other sums sums_cuts =
     let values = map Values races in
     let lines = map Lines line_races in
     let all_are : values ++ lines ≡ differences_in found = λ i. map Values (races_are i) ++ map Lines (lines_are i) in
@@ -565,6 +688,7 @@ takes_all found races line_races old new mid here there last races_are lines_are
     record {
       traced = traced;
       scope = scope;
+      ended = ended;
       cut = cut;
       adds = subst (λ (l : List Difference). Adds t (Contains l) (group_heads old.groups.items) (group_heads new.groups.items)) all_are
           (adds_on t (Contains (values ++ lines)) (group_heads old.groups.items) (group_heads mid) (group_heads new.groups.items) first second);
@@ -580,14 +704,17 @@ takes_all found races line_races old new mid here there last races_are lines_are
           (subst (λ (l : List LineRace). AreNamedApart Lines l → Counts old.scope.names (IsNamedIn Lines l (length l)) mid new.groups.items)
           lines_are count_other apart.1);
       ends = subst (λ (x : Setting). SumsUp x (pairs_of found.ends.items) (pairs_of old.ends.items) (pairs_of new.ends.items)) last_is sums;
+      cut_ends = subst (λ (x : Setting). SumsUpCuts x (pairs_of found.ends.items) (pairs_of old.ends.items) (pairs_of new.ends.items)
+          (pairs_of old.cut_ends.items) (pairs_of new.cut_ends.items)) last_is sums_cuts;
     }
 
 -- what an early slot gave is left out
 pub takes_early : (time : ℕ) (found : FoundInSlot) (old new : RaceGroups) → time < old.scope.from → traced_by new ≡ traced_by old →
     new.scope ≡ old.scope → new.groups.items ≡ old.groups.items →
-    new.ends.items ≡ old.ends.items → (new.cut_runs ≡ false → (old.cut_runs ≡ false) × AreUncut (setting_of old)
+    new.ends.items ≡ old.ends.items → new.cut_ends.items ≡ old.cut_ends.items →
+    (new.ended ≡ false → (old.ended ≡ false) × (found.ends.items ≡ [])) → (new.cut_runs ≡ false → (old.cut_runs ≡ false) × AreUncut (setting_of old)
     (pairs_of found.ends.items)) → TakesSlot time found old new
-takes_early time found old new early traced scope same ends cut = record {
+takes_early time found old new early traced scope same ends cut_ends ended cut = record {
   traced = traced;
   scope = scope;
   adds = adds_none (traced_by old) (Contains (differences_in found)) (group_heads old.groups.items)
@@ -596,15 +723,19 @@ takes_early time found old new early traced scope same ends cut = record {
   counts = λ late. absurd (omega (arith, early, late));
   before = λ lt. ends;
   ends = λ late. absurd (omega (arith, early, late));
+  cuts_before = λ lt. cut_ends;
+  cut_ends = λ late. absurd (omega (arith, early, late));
+  ended = ended;
   cut = cut;
 }
 
 -- what a later one gave is taken; what else the slot changed before stands in `mid`
 pub takes_late : (time : ℕ) (found : FoundInSlot) (old mid new : RaceGroups) → old.scope.from ≤ time → traced_by mid ≡ traced_by old →
     mid.scope ≡ old.scope → mid.groups.items ≡ old.groups.items →
-    mid.ends.items ≡ old.ends.items → (mid.cut_runs ≡ false → (old.cut_runs ≡ false) × AreUncut (setting_of old)
+    mid.ends.items ≡ old.ends.items → mid.cut_ends.items ≡ old.cut_ends.items →
+    (mid.ended ≡ false → (old.ended ≡ false) × (found.ends.items ≡ [])) → (mid.cut_runs ≡ false → (old.cut_runs ≡ false) × AreUncut (setting_of old)
     (pairs_of found.ends.items)) → TakesAll found mid new → TakesSlot time found old new
-takes_late time found old mid new late traced scope same ends cut all =
+takes_late time found old mid new late traced scope same ends cut_ends ended cut all =
     let counts = subst (λ (s : Scope). AreApartInSlot found → Counts s.names (IsNamedInSlot found) old.groups.items new.groups.items) scope
     (subst (λ (l : List Group). AreApartInSlot found → Counts mid.scope.names (IsNamedInSlot found) l new.groups.items) same all.counts) in
     record {
@@ -621,6 +752,14 @@ takes_late time found old mid new late traced scope same ends cut all =
           (pairs_of new.ends.items)) traced
           (subst (λ (l : List (FoundMark MachineState)). SumsUp (setting_of mid) (pairs_of found.ends.items) (pairs_of l)
           (pairs_of new.ends.items)) ends all.ends);
+      cuts_before = λ lt. absurd (omega (arith, lt, late));
+      cut_ends = λ le. subst (λ (t : Tracing). SumsUpCuts t.setting (pairs_of found.ends.items) (pairs_of old.ends.items)
+          (pairs_of new.ends.items) (pairs_of old.cut_ends.items) (pairs_of new.cut_ends.items)) traced
+          (subst (λ (l : List (FoundMark MachineState)). SumsUpCuts (setting_of mid) (pairs_of found.ends.items) (pairs_of old.ends.items)
+          (pairs_of new.ends.items) (pairs_of l) (pairs_of new.cut_ends.items)) cut_ends
+          (subst (λ (l : List (FoundMark MachineState)). SumsUpCuts (setting_of mid) (pairs_of found.ends.items) (pairs_of l)
+          (pairs_of new.ends.items) (pairs_of mid.cut_ends.items) (pairs_of new.cut_ends.items)) ends all.cut_ends));
+      ended = λ e. ended (sym all.ended ∙ e);
       cut = λ e. cut (sym all.cut ∙ e);
     }
 
@@ -635,6 +774,9 @@ takes_seen time found old new seen takes = record {
   counts = takes.counts;
   before = takes.before;
   ends = takes.ends;
+  cuts_before = takes.cuts_before;
+  cut_ends = takes.cut_ends;
+  ended = takes.ended;
   cut = takes.cut;
 }
 
@@ -644,39 +786,44 @@ pub grows_by : (tracing : Tracing) (P : Difference → Type 0) (old new : List G
 grows_by tracing P old new adds = (adds.more, adds.is)
 
 pub grows_all : (old new : RaceGroups) (mid : List Group) → traced_by new ≡ traced_by old → new.scope ≡ old.scope →
-    new.cut_runs ≡ old.cut_runs →
+    new.ended ≡ old.ended → new.cut_runs ≡ old.cut_runs →
     GrowsTo (group_heads old.groups.items) (group_heads mid) → GrowsTo (group_heads mid) (group_heads new.groups.items) →
     CountsStill old.scope.names old.groups.items mid →
     CountsStill old.scope.names mid new.groups.items →
-    GrowsTo old.ends.items new.ends.items → GrowsBehind old new
-grows_all old new mid traced scope cut one other count_one count_other ends = record {
+    GrowsTo old.ends.items new.ends.items → GrowsTo old.cut_ends.items new.cut_ends.items → GrowsBehind old new
+grows_all old new mid traced scope ended cut one other count_one count_other ends cut_ends = record {
   traced = traced;
   scope = scope;
   still = still_on old.scope.names old.groups.items mid new.groups.items count_one count_other;
   groups = grows_on (group_heads old.groups.items) (group_heads mid) (group_heads new.groups.items) one other;
   ends = ends;
+  cut_ends = cut_ends;
+  ended = λ e. sym ended ∙ e;
   cut = λ e. sym cut ∙ e;
 }
 
 -- where what else the slot changed before stands in `mid`
 pub grows_late : (old mid new : RaceGroups) → traced_by mid ≡ traced_by old → mid.scope ≡ old.scope → mid.groups.items ≡ old.groups.items →
-    mid.ends.items ≡ old.ends.items →
+    mid.ends.items ≡ old.ends.items → mid.cut_ends.items ≡ old.cut_ends.items → (mid.ended ≡ false → old.ended ≡ false) →
     (mid.cut_runs ≡ false → old.cut_runs ≡ false) → GrowsBehind mid new → GrowsBehind old new
-grows_late old mid new traced scope same ends cut grows = record {
+grows_late old mid new traced scope same ends cut_ends ended cut grows = record {
   traced = grows.traced ∙ traced;
   scope = grows.scope ∙ scope;
   still = subst (λ (s : Scope). CountsStill s.names old.groups.items new.groups.items) scope
       (subst (λ (l : List Group). CountsStill mid.scope.names l new.groups.items) same grows.still);
   groups = subst (λ (l : List Group). GrowsTo (group_heads l) (group_heads new.groups.items)) same grows.groups;
   ends = subst (λ (l : List (FoundMark MachineState)). GrowsTo l new.ends.items) ends grows.ends;
+  cut_ends = subst (λ (l : List (FoundMark MachineState)). GrowsTo l new.cut_ends.items) cut_ends grows.cut_ends;
+  ended = λ e. ended (grows.ended e);
   cut = λ e. cut (grows.cut e);
 }
 
 -- what grew is cut back
-pub back_again : (old mid new : RaceGroups) (g e : ℕ) → g ≡ length old.groups.items → e ≡ length old.ends.items → GrowsBehind old mid →
-    traced_by new ≡ traced_by mid → new.scope ≡ mid.scope →
-    new.groups.items ≡ take g mid.groups.items → new.ends.items ≡ take e mid.ends.items → new.cut_runs ≡ mid.cut_runs → StaysSo old new
-back_again old mid new g e g_is e_is grows traced scope groups ends cut =
+pub back_again : (old mid new : RaceGroups) (g e k : ℕ) → g ≡ length old.groups.items → e ≡ length old.ends.items →
+    k ≡ length old.cut_ends.items → GrowsBehind old mid → traced_by new ≡ traced_by mid → new.scope ≡ mid.scope →
+    new.groups.items ≡ take g mid.groups.items → new.ends.items ≡ take e mid.ends.items →
+    new.cut_ends.items ≡ take k mid.cut_ends.items → new.ended ≡ mid.ended → new.cut_runs ≡ mid.cut_runs → StaysSo old new
+back_again old mid new g e k g_is e_is k_is grows traced scope groups ends cut_ends ended cut =
     let len : length (group_heads old.groups.items) ≡ length old.groups.items = length-map old.groups.items group_head in
     record {
       traced = traced ∙ grows.traced;
@@ -689,5 +836,8 @@ back_again old mid new g e g_is e_is grows traced scope groups ends cut =
           ∙ take-append_seam (group_heads old.groups.items) grows.groups.0;
       ends = ends ∙ ap (λ (n : ℕ). take n mid.ends.items) e_is ∙ ap (take (length old.ends.items)) grows.ends.1
           ∙ take-append_seam old.ends.items grows.ends.0;
+      cut_ends = cut_ends ∙ ap (λ (n : ℕ). take n mid.cut_ends.items) k_is ∙ ap (take (length old.cut_ends.items)) grows.cut_ends.1
+          ∙ take-append_seam old.cut_ends.items grows.cut_ends.0;
+      ended = λ none. grows.ended (sym ended ∙ none);
       cut = λ none. grows.cut (sym cut ∙ none);
     }

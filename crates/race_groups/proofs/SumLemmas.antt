@@ -1,5 +1,5 @@
 -- Of the states in which runs end, what tells whether all are alike.
-use Rattle.std.specs.Prelude.{Decides, option_map}
+use Rattle.std.specs.Prelude.{Decides, Result, Ok, Err, OnOk, ◌⊎◌, option_map}
 use Rattle.std.specs.Bool.{MatchBool}
 use Rattle.std.proofs.lemmas.Bool.Decides.{Decides-like}
 use Rattle.std.proofs.Common.{◌≡◌, ◌&&◌, Bool, true, false, Option, ℕ, ◌<◌, ◌≤◌, List, [], ◌∷◌, ◌++◌, length, drop, get_or, slice_get, Some, refl}
@@ -18,10 +18,11 @@ use Rattle.vmodel.specs.Run.{Setting}
 use Rattle.vmachine.specs.declared.machine_state.MachineState.{MachineState}
 use Rattle.vmachine.specs.Machines.{Stands}
 use Rattle.vmachine.specs.Reads.{end_in}
-use Rattle.vbits.specs.Vectors.{Vector}
 use Rattle.sched_core.specs.declared.end.End.{End}
 use Rattle.std.proofs.lemmas.Option.{get_or_from_slice_get, same_Some, slice_get_within}
-use Rattle.race_groups.specs.Inner.{AreAlike, AreUncut, AreUnlike, BeginsWithFewest, GrowsTo, IsUncut, KeepsFirst, Shape, SumsUp, shape_of}
+use Rattle.race_groups.specs.Found.{Verdict}
+use Rattle.race_groups.specs.Inner.{AreAlike, AreUncut, AreUnlike, BeginsWithFewest, GrowsTo, IsUncut, KeepsFirst, SumsUp, SumsUpCuts}
+use Rattle.race_groups.specs.Inner.{compared_end, cut_lines_in, verdict_in}
 use Rattle.race_groups.proofs.ListLemmas.{from_map, front_of_one, none_in_front, nothing_in}
 
 abbrev Pair : Type 0
@@ -70,6 +71,53 @@ sums_moved setting ends others old new moved sums = record {
   unlike = sums.unlike;
 }
 
+-- the first stays the first
+pub first_before : {A : Type 0} (mid new more : List A) (one : A) → new ≡ mid ++ more → slice_get new 0 ≡ Some one →
+    (mid ≡ []) ⊎ (slice_get mid 0 ≡ Some one)
+first_before [] new more one is at = inl refl
+first_before (x ∷ xs) new more one is at = inr (sym (ap (λ l. slice_get l 0) is) ∙ at)
+
+pub cuts_none : (setting : Setting) (ends cuts : List Pair) → SumsUpCuts setting [] ends ends cuts cuts
+cuts_none setting ends cuts = record {
+  more = [];
+  is = sym (append-nil cuts);
+  among = λ end has. has;
+  none = λ e one at end has. nothing_in end has;
+  kept = λ kept. kept;
+}
+
+-- cut ends, one after another
+pub cuts_on : (setting : Setting) (ends others old_ends mid_ends new_ends old mid new : List Pair) →
+    SumsUp setting ends old_ends mid_ends → SumsUp setting others mid_ends new_ends →
+    SumsUpCuts setting ends old_ends mid_ends old mid → SumsUpCuts setting others mid_ends new_ends mid new →
+    SumsUpCuts setting (ends ++ others) old_ends new_ends old new
+cuts_on setting ends others old_ends mid_ends new_ends old mid new first second a b = record {
+  more = a.more ++ b.more;
+  is = b.is ∙ ap (λ l. l ++ b.more) a.is ∙ append_assoc old a.more b.more;
+  among = λ end has. elim (Contains-append_cases a.more b.more end has) [
+    | inl one ↦ Contains-append_left ends others end (a.among end one)
+    | inr other ↦ Contains-append_right ends others end (b.among end other)
+  ];
+  none = λ e one at end has. elim (Contains-append_cases ends others end has) [
+    | inl here ↦ elim (first_before mid_ends new_ends second.more one second.is at) [
+      | inl none ↦ nothing_in end (subst (λ (l : List Pair). Contains l end) (first.none none) here)
+      | inr there ↦ a.none (none_in_front mid b.more (sym b.is ∙ e)) one there end here
+    ]
+    | inr here ↦ b.none e one at end here
+  ];
+  kept = λ kept. b.kept (a.kept kept);
+}
+
+pub cuts_moved : (setting : Setting) (ends others old_ends new_ends old new : List Pair) → IsPermutation ends others →
+    SumsUpCuts setting others old_ends new_ends old new → SumsUpCuts setting ends old_ends new_ends old new
+cuts_moved setting ends others old_ends new_ends old new moved sums = record {
+  more = sums.more;
+  is = sums.is;
+  among = λ end has. Contains-permutation others ends end (IsPermutation-sym ends others moved) (sums.among end has);
+  none = λ e one at end has. sums.none e one at end (Contains-permutation ends others end moved has);
+  kept = sums.kept;
+}
+
 pub grows_on : {A : Type 0} (old mid new : List A) → GrowsTo old mid → GrowsTo mid new → GrowsTo old new
 grows_on old mid new a b = (a.0 ++ b.0, b.1 ∙ ap (λ l. l ++ b.0) a.1 ∙ append_assoc old a.0 b.0)
 
@@ -78,7 +126,7 @@ grows_none old = ([], sym (append-nil old))
 
 -- ---- the first of them
 
-alone : (one end : Pair) → Contains (one ∷ []) end → one ≡ end
+pub alone : (one end : Pair) → Contains (one ∷ []) end → one ≡ end
 alone one end has = elim (Contains-push_cases [] one end has) [
   | inl none ↦ nothing_in end none
   | inr is ↦ is
@@ -113,48 +161,75 @@ first_on setting (x ∷ xs) end old mid new before first one none k at =
 -- ---- one state after another
 
 -- of the states that were looked at, those in front of what is left
-pub record SumsSoFar (setting : Setting) (all left old kept : List (FoundMark MachineState)) : Type 0 where
+pub record SumsSoFar (setting : Setting) (all left old kept old_cuts cuts : List (FoundMark MachineState)) : Type 0 where
   pub looked_at : List (FoundMark MachineState)
   pub whole : looked_at ++ left ≡ all
   pub sums : SumsUp setting (pairs_of looked_at) (pairs_of old) (pairs_of kept)
+  pub sums_cuts : SumsUpCuts setting (pairs_of looked_at) (pairs_of old) (pairs_of kept) (pairs_of old_cuts) (pairs_of cuts)
   pub first : KeepsFirst (pairs_of looked_at) (pairs_of old) (pairs_of kept)
   pub grows : GrowsTo old kept
+  pub cuts_grow : GrowsTo old_cuts cuts
 
-pub sums_start : (setting : Setting) (all left kept : List (FoundMark MachineState)) → left ≡ all → SumsSoFar setting all left kept kept
-sums_start setting all left kept is = record {
+pub sums_start : (setting : Setting) (all left kept cuts : List (FoundMark MachineState)) → left ≡ all →
+    SumsSoFar setting all left kept kept cuts cuts
+sums_start setting all left kept cuts is = record {
   looked_at = [];
   whole = is;
   sums = sums_none setting (pairs_of kept);
+  sums_cuts = cuts_none setting (pairs_of kept) (pairs_of cuts);
   first = λ none end at. absurd cc;
   grows = grows_none kept;
+  cuts_grow = grows_none cuts;
 }
 
-pub sums_next : (setting : Setting) (all left rest old mid new : List (FoundMark MachineState)) (found : FoundMark MachineState) →
-    SumsSoFar setting all left old mid → left ≡ found ∷ rest →
-    SumsUp setting (pairs_of (found ∷ [])) (pairs_of mid) (pairs_of new) → GrowsTo mid new → SumsSoFar setting all rest old new
-sums_next setting all left rest old mid new found so_far first one grows = record {
-  looked_at = so_far.looked_at ++ found ∷ [];
-  whole = append_assoc so_far.looked_at (found ∷ []) rest ∙ ap (λ l. so_far.looked_at ++ l) (sym first) ∙ so_far.whole;
-  sums = subst (λ (l : List Pair). SumsUp setting l (pairs_of old) (pairs_of new))
-      (sym (map-append (λ (f : FoundMark MachineState). (f.state, f.log)) so_far.looked_at (found ∷ [])))
-      (sums_on setting (pairs_of so_far.looked_at) (pairs_of (found ∷ [])) (pairs_of old) (pairs_of mid) (pairs_of new) so_far.sums one);
-  first = subst (λ (l : List Pair). KeepsFirst l (pairs_of old) (pairs_of new))
-      (sym (map-append (λ (f : FoundMark MachineState). (f.state, f.log)) so_far.looked_at (found ∷ [])))
-      (first_on setting (pairs_of so_far.looked_at) (found.state, found.log) (pairs_of old) (pairs_of mid) (pairs_of new) so_far.sums so_far.first one);
-  grows = grows_on old mid new so_far.grows grows;
-}
+pub sums_next : (setting : Setting) (all left rest old mid new old_cuts mid_cuts new_cuts : List (FoundMark MachineState))
+    (found : FoundMark MachineState) →
+    SumsSoFar setting all left old mid old_cuts mid_cuts → left ≡ found ∷ rest →
+    SumsUp setting (pairs_of (found ∷ [])) (pairs_of mid) (pairs_of new) →
+    SumsUpCuts setting (pairs_of (found ∷ [])) (pairs_of mid) (pairs_of new) (pairs_of mid_cuts) (pairs_of new_cuts) →
+    GrowsTo mid new → GrowsTo mid_cuts new_cuts → SumsSoFar setting all rest old new old_cuts new_cuts
+sums_next setting all left rest old mid new old_cuts mid_cuts new_cuts found so_far first one one_cut grows cuts_grow =
+    let looked_at : pairs_of so_far.looked_at ++ (found.state, found.log) ∷ [] ≡ pairs_of (so_far.looked_at ++ found ∷ []) =
+    sym (map-append (λ (f : FoundMark MachineState). (f.state, f.log)) so_far.looked_at (found ∷ [])) in
+    record {
+      looked_at = so_far.looked_at ++ found ∷ [];
+      whole = append_assoc so_far.looked_at (found ∷ []) rest ∙ ap (λ l. so_far.looked_at ++ l) (sym first) ∙ so_far.whole;
+      sums = subst (λ (l : List Pair). SumsUp setting l (pairs_of old) (pairs_of new)) looked_at
+          (sums_on setting (pairs_of so_far.looked_at) (pairs_of (found ∷ [])) (pairs_of old) (pairs_of mid) (pairs_of new) so_far.sums one);
+      sums_cuts = subst (λ (l : List Pair). SumsUpCuts setting l (pairs_of old) (pairs_of new) (pairs_of old_cuts) (pairs_of new_cuts)) looked_at
+          (cuts_on setting (pairs_of so_far.looked_at) (pairs_of (found ∷ [])) (pairs_of old) (pairs_of mid) (pairs_of new)
+          (pairs_of old_cuts) (pairs_of mid_cuts) (pairs_of new_cuts) so_far.sums one so_far.sums_cuts one_cut);
+      first = subst (λ (l : List Pair). KeepsFirst l (pairs_of old) (pairs_of new)) looked_at
+          (first_on setting (pairs_of so_far.looked_at) (found.state, found.log) (pairs_of old) (pairs_of mid) (pairs_of new) so_far.sums
+          so_far.first one);
+      grows = grows_on old mid new so_far.grows grows;
+      cuts_grow = grows_on old_cuts mid_cuts new_cuts so_far.cuts_grow cuts_grow;
+    }
 
-pub sums_done : (setting : Setting) (all left old kept : List (FoundMark MachineState)) → SumsSoFar setting all left old kept → left ≡ [] →
-    SumsUp setting (pairs_of all) (pairs_of old) (pairs_of kept)
-sums_done setting all left old kept so_far none =
-    let e : so_far.looked_at ≡ all = sym (append-nil so_far.looked_at) ∙ ap (λ l. so_far.looked_at ++ l) (sym none) ∙ so_far.whole in
-    subst (λ (l : List (FoundMark MachineState)). SumsUp setting (pairs_of l) (pairs_of old) (pairs_of kept)) e so_far.sums
+-- all were looked at
+all_looked_at : (setting : Setting) (all left old kept old_cuts cuts : List (FoundMark MachineState)) →
+    (so_far : SumsSoFar setting all left old kept old_cuts cuts) → left ≡ [] → so_far.looked_at ≡ all
+all_looked_at setting all left old kept old_cuts cuts so_far none =
+    sym (append-nil so_far.looked_at) ∙ ap (λ l. so_far.looked_at ++ l) (sym none) ∙ so_far.whole
 
-pub first_done : (setting : Setting) (all left old kept : List (FoundMark MachineState)) → SumsSoFar setting all left old kept → left ≡ [] →
-    KeepsFirst (pairs_of all) (pairs_of old) (pairs_of kept)
-first_done setting all left old kept so_far none =
-    let e : so_far.looked_at ≡ all = sym (append-nil so_far.looked_at) ∙ ap (λ l. so_far.looked_at ++ l) (sym none) ∙ so_far.whole in
-    subst (λ (l : List (FoundMark MachineState)). KeepsFirst (pairs_of l) (pairs_of old) (pairs_of kept)) e so_far.first
+pub sums_done : (setting : Setting) (all left old kept old_cuts cuts : List (FoundMark MachineState)) →
+    SumsSoFar setting all left old kept old_cuts cuts → left ≡ [] → SumsUp setting (pairs_of all) (pairs_of old) (pairs_of kept)
+sums_done setting all left old kept old_cuts cuts so_far none =
+    subst (λ (l : List (FoundMark MachineState)). SumsUp setting (pairs_of l) (pairs_of old) (pairs_of kept))
+    (all_looked_at setting all left old kept old_cuts cuts so_far none) so_far.sums
+
+pub cuts_done : (setting : Setting) (all left old kept old_cuts cuts : List (FoundMark MachineState)) →
+    SumsSoFar setting all left old kept old_cuts cuts → left ≡ [] →
+    SumsUpCuts setting (pairs_of all) (pairs_of old) (pairs_of kept) (pairs_of old_cuts) (pairs_of cuts)
+cuts_done setting all left old kept old_cuts cuts so_far none =
+    subst (λ (l : List (FoundMark MachineState)). SumsUpCuts setting (pairs_of l) (pairs_of old) (pairs_of kept) (pairs_of old_cuts)
+    (pairs_of cuts)) (all_looked_at setting all left old kept old_cuts cuts so_far none) so_far.sums_cuts
+
+pub first_done : (setting : Setting) (all left old kept old_cuts cuts : List (FoundMark MachineState)) →
+    SumsSoFar setting all left old kept old_cuts cuts → left ≡ [] → KeepsFirst (pairs_of all) (pairs_of old) (pairs_of kept)
+first_done setting all left old kept old_cuts cuts so_far none =
+    subst (λ (l : List (FoundMark MachineState)). KeepsFirst (pairs_of l) (pairs_of old) (pairs_of kept))
+    (all_looked_at setting all left old kept old_cuts cuts so_far none) so_far.first
 
 -- ---- one state
 
@@ -203,6 +278,13 @@ module _ (setting : Setting) (found : FoundMark MachineState) where
         unlike = λ un. un;
       }
 
+  -- the same where more may be kept
+  pub sums_like_first : (old : List (FoundMark MachineState)) (one : FoundMark MachineState) → slice_get old 0 ≡ Some one →
+      AreAlike setting one.state found.state → SumsUp setting (pair ∷ []) (pairs_of old) (pairs_of old)
+  sums_like_first [] one at like = absurd (cc)
+  sums_like_first (x ∷ []) one at like = sums_like (x ∷ []) one refl at like
+  sums_like_first (x ∷ y ∷ xs) one at like = sums_full (x ∷ y ∷ xs) (omega arith)
+
   -- it is the first
   pub sums_first : ForOne setting → (old new : List (FoundMark MachineState)) → old ≡ [] → new ≡ old ++ found ∷ [] →
       SumsUp setting (pair ∷ []) (pairs_of old) (pairs_of new)
@@ -218,7 +300,7 @@ module _ (setting : Setting) (found : FoundMark MachineState) where
             (let same : pair ≡ k = same_Some pair k (ap (λ (l : List Pair). slice_get l 0) (sym new_is ∙ e)) in
             let here : pair ≡ end = alone pair end has in
             subst (λ (p : Pair). AreAlike setting p.0 k.0) here (subst (λ (p : Pair). AreAlike setting found.state p.0) same
-            (λ t u st su. ap shape_of (one_only found.state t u st su))));
+            (λ t u st su. ap verdict_in (one_only found.state t u st su))));
         unlike = λ un k l at at'. absurd (let f = ap (λ (l : List Pair). slice_get l 1) new_is in cc);
       }
 
@@ -270,27 +352,27 @@ some_tells f b o p x y is is' d =
 abbrev pub Reads : {V : Type 0} → Setting → MachineState → (State → V) → V → Type 0
 Reads setting s read value = (t : State) → Stands setting s t → value ≡ read t
 
-module _ (setting : Setting) (s r : MachineState) (end end' : Option End) (values values' : List Vector)
-    (printed printed' : Option (List (List ℕ)))
-    (of_end : Reads setting s end_in end) (of_end' : Reads setting r end_in end') (of_values : Reads setting s (λ t. t.values) values)
-    (of_values' : Reads setting r (λ t. t.values) values')
-    (of_printed : Reads setting s (λ t. t.printed) printed) (of_printed' : Reads setting r (λ t. t.printed) printed') where
-  pub told_alike : (a b c : Bool) → Decides a (end ≡ end') → Decides b (values ≡ values') → Decides c (printed ≡ printed') →
-      MatchBool (a && (b && c)) (AreAlike setting s r) (AreUnlike setting s r)
-  told_alike true true true a b c = λ t u st su.
-      (let e : end_in t ≡ end_in u = sym (of_end t st) ∙ a.0 refl ∙ of_end' u su in
-      let v : t.values ≡ u.values = sym (of_values t st) ∙ b.0 refl ∙ of_values' u su in
-      let p : t.printed ≡ u.printed = sym (of_printed t st) ∙ c.0 refl ∙ of_printed' u su in
-      λ i. record { end = e i; values = v i; printed = p i })
-  told_alike false b c one two three = λ t u st su same. absurd (let e = one.1 (of_end t st ∙ ap (λ (x : Shape). x.end) same
+module _ (setting : Setting) (s r : MachineState) (end end' : Option End) (printed printed' : Option (List (List ℕ)))
+    (of_end : Reads setting s (λ t. compared_end (end_in t)) end) (of_end' : Reads setting r (λ t. compared_end (end_in t)) end')
+    (of_printed : Reads setting s cut_lines_in printed) (of_printed' : Reads setting r cut_lines_in printed') where
+  pub told_alike : (a b : Bool) → Decides a (end ≡ end') → Decides b (printed ≡ printed') →
+      MatchBool (a && b) (AreAlike setting s r) (AreUnlike setting s r)
+  told_alike true true a b = λ t u st su.
+      (let e : compared_end (end_in t) ≡ compared_end (end_in u) = sym (of_end t st) ∙ a.0 refl ∙ of_end' u su in
+      let p : cut_lines_in t ≡ cut_lines_in u = sym (of_printed t st) ∙ b.0 refl ∙ of_printed' u su in
+      λ i. record { end = e i; printed = p i })
+  told_alike false b one two = λ t u st su same. absurd (let e = one.1 (of_end t st ∙ ap (λ (x : Verdict). x.end) same
       ∙ sym (of_end' u su)) in cc)
-  told_alike true false c one two three = λ t u st su same. absurd (let e = two.1 (of_values t st ∙ ap (λ (x : Shape). x.values) same
-      ∙ sym (of_values' u su)) in cc)
-  told_alike true true false one two three = λ t u st su same. absurd (let e = three.1 (of_printed t st ∙ ap (λ (x : Shape). x.printed) same
+  told_alike true false one two = λ t u st su same. absurd (let e = two.1 (of_printed t st ∙ ap (λ (x : Verdict). x.printed) same
       ∙ sym (of_printed' u su)) in cc)
 
 pub grows_same : {A : Type 0} (old new : List A) → new ≡ old → GrowsTo old new
 grows_same old new is = ([], is ∙ sym (append-nil old))
+
+-- of an answer both hold
+pub both_ok : {U E A B C : Type 0} (result : Result U E) → (A → B → C) → OnOk result A → OnOk result B → OnOk result C
+both_ok (Ok u) f a b = f a b
+both_ok (Err e) f a b = tt
 
 -- ---- the fewest departures
 

@@ -1,15 +1,18 @@
 -- *product rule*: What a search for races tells, by causes (IEEE 1364-2005, 11.3, 11.4; crates/race_groups/README.md): differences that are
 -- some, causes that are theirs, and where nothing is told, that there is nothing from one time on, up to another or for good.
-use Rattle.std.specs.Prelude.{◌≡◌, ◌≢◌, ⊤, false, true, ℕ, ◌≤◌, ◌⊎◌, List, [], ◌∷◌, ◌++◌, length, map, take, slice_get, min, Option}
-use Rattle.std.specs.Prelude.{Some, None, IfNone, IfSome}
+use Rattle.std.specs.Prelude.{◌≡◌, ◌≢◌, ⊤, Bool, false, true, ℕ, ◌≤◌, ◌⊎◌, List, [], ◌∷◌, ◌++◌, length, map, take, slice_get, min, Option}
+use Rattle.std.specs.Prelude.{Some, None, IfNone, IfSome, if◌then◌else◌}
 use Rattle.std.specs.List.{Contains}
 use Rattle.basis.specs.declared.memory.NoMemory.{NoMemory}
-use Rattle.sched_core.specs.declared.end.Cause.TheVariants.{Limit}
+use Rattle.sched_core.specs.declared.end.Cause.{Cause}
+use Rattle.sched_core.specs.declared.end.Cause.TheVariants.{Finish, Stop, Quiet, Limit}
+use Rattle.sched_core.specs.declared.end.End.{End}
 use Rattle.sched_core.specs.Replay.{EndsAfter}
 use Rattle.sched_core.specs.Rules.{IsRun}
 use Rattle.statebook.specs.declared.limits.Limits.{Limits}
 use Rattle.explore.specs.Ranked.{pairs_of}
 use Rattle.explore.specs.declared.ranked_findings.RankedStatus.TheVariants.{Exhausted}
+use Rattle.vbits.specs.Vectors.{Vector}
 use Rattle.vmodel.specs.State.{State}
 use Rattle.vmodel.specs.Run.{Setting, rules_of, state_after, end_of}
 use Rattle.vmachine.specs.declared.machine_state.MachineState.{MachineState}
@@ -27,14 +30,45 @@ use Rattle.race_groups.specs.declared.group.Scope.{Scope}
 
 -- ---- one difference, and its cause
 
--- runs that end in these two end alike: at one time, for one cause, with the same values, and where lines are looked at with the same
--- lines of the last slot
-pub record EndsAlike (one other : State) : Type 0 where
-  pub end : end_of one ≡ end_of other
-  pub values : one.values ≡ other.values
-  pub printed : one.printed ≡ other.printed
+-- 17.4: `$finish` and `$stop` end a run in the middle of a slot
+abbrev pub cuts_slot : Cause → Bool
+cuts_slot Finish = true
+cuts_slot Stop = true
+cuts_slot Quiet = false
+cuts_slot Limit = false
 
--- two of these ends aren't alike
+-- where the time limit cuts a run, its end isn't compared
+abbrev pub compared_by : Cause → End → Option End
+compared_by Finish end = Some end
+compared_by Stop end = Some end
+compared_by Quiet end = Some end
+compared_by Limit end = None
+
+-- What is compared of the end of a run: its time and cause; and where the slot is cut and lines are looked at, the lines that it printed.
+-- What a slot printed that has an end is compared there.
+pub record Verdict : Type 0 where
+  pub end : Option End
+  pub printed : Option (List (List ℕ))
+
+abbrev pub verdict_by : End → State → Verdict
+verdict_by end t = record {
+  end = compared_by end.cause end;
+  printed = if cuts_slot end.cause then t.printed else None;
+}
+
+-- the values that a cut slot leaves; none of a slot that has an end
+abbrev pub cut_values_by : End → State → List Vector
+cut_values_by end t = if cuts_slot end.cause then t.values else []
+
+-- runs that end in these two end alike
+abbrev pub EndsAgree : State → State → Type 0
+EndsAgree one other = verdict_by (end_of one) one ≡ verdict_by (end_of other) other
+
+-- and leave a cut slot with the same values
+abbrev pub CutAlike : State → State → Type 0
+CutAlike one other = cut_values_by (end_of one) one ≡ cut_values_by (end_of other) other
+
+-- two of these ends differ
 pub record TwoEndsDiffer (setting : Setting) (ends : List (MachineState × List (ℕ × ℕ))) : Type 0 where
   pub one : MachineState × List (ℕ × ℕ)
   pub other : MachineState × List (ℕ × ℕ)
@@ -44,7 +78,20 @@ pub record TwoEndsDiffer (setting : Setting) (ends : List (MachineState × List 
   pub other_state : State
   pub stands : Stands setting one.0 state
   pub other_stands : Stands setting other.0 other_state
-  pub differ : EndsAlike state other_state → ⊥
+  pub differ : EndsAgree state other_state → ⊥
+
+-- two of these ends are alike, but for the values that a cut slot leaves
+pub record TwoCutsDiffer (setting : Setting) (ends : List (MachineState × List (ℕ × ℕ))) : Type 0 where
+  pub one : MachineState × List (ℕ × ℕ)
+  pub other : MachineState × List (ℕ × ℕ)
+  pub has_one : Contains ends one
+  pub has_other : Contains ends other
+  pub state : State
+  pub other_state : State
+  pub stands : Stands setting one.0 state
+  pub other_stands : Stands setting other.0 other_state
+  pub agree : EndsAgree state other_state
+  pub differ : CutAlike state other_state → ⊥
 
 -- runs within the limits differ so, each under its log
 abbrev pub IsDifference : Setting → Limits → Difference → Type 0
@@ -160,15 +207,26 @@ pub record AllAreCounted (setting : Setting) (depart names : ℕ) (groups : List
 
 -- ---- where nothing is told
 
+-- all runs of at most so many departures that end at these times end alike
+abbrev pub AllEndsAgree : Setting → ℕ → (ℕ → Type 0) → Type 0
+AllEndsAgree setting depart Within = (log other : List (ℕ × ℕ)) (steps others : ℕ) → length log ≤ depart → length other ≤ depart →
+    EndsAfter (rules_of setting) log steps → EndsAfter (rules_of setting) other others →
+    Within (state_after setting log steps).queue.time → Within (state_after setting other others).queue.time →
+    EndsAgree (state_after setting log steps) (state_after setting other others)
+
+-- and leave a cut slot with the same values
+abbrev pub AllCutAlike : Setting → ℕ → (ℕ → Type 0) → Type 0
+AllCutAlike setting depart Within = (log other : List (ℕ × ℕ)) (steps others : ℕ) → length log ≤ depart → length other ≤ depart →
+    EndsAfter (rules_of setting) log steps → EndsAfter (rules_of setting) other others →
+    Within (state_after setting log steps).queue.time → Within (state_after setting other others).queue.time →
+    CutAlike (state_after setting log steps) (state_after setting other others)
+
 -- of runs of at most so many departures: at these times no two differ in a variable at the end of a slot, no two print different lines
 -- in a slot, and all that end do so alike
 pub record NoneDiffer (setting : Setting) (depart : ℕ) (Within : ℕ → Type 0) : Type 0 where
   pub values : (time variable : ℕ) → Within time → TwoRunsDiffer setting depart time variable → ⊥
   pub lines : (time : ℕ) → Within time → TwoRunsPrint setting depart time → ⊥
-  pub ends : (log other : List (ℕ × ℕ)) (steps others : ℕ) → length log ≤ depart → length other ≤ depart →
-      EndsAfter (rules_of setting) log steps → EndsAfter (rules_of setting) other others →
-      Within (state_after setting log steps).queue.time → Within (state_after setting other others).queue.time →
-      EndsAlike (state_after setting log steps) (state_after setting other others)
+  pub ends : AllEndsAgree setting depart Within
 
 -- none that ends at these times was cut by the time limit
 abbrev pub NoneIsCut : Setting → ℕ → (ℕ → Type 0) → Type 0
@@ -220,6 +278,56 @@ TellsOfNone setting limits scope races = races.groups.items ≡ [] →
 abbrev pub TellsOfNoneThroughout : Setting → Limits → Scope → Races → Type 0
 TellsOfNoneThroughout setting limits scope races = races.groups.items ≡ [] → races.search.status ≡ Exhausted →
     NoneDiffer setting limits.depart (λ time. scope.from ≤ time)
+
+-- ---- how runs end
+
+abbrev pub IsOfEnds : Difference → Type 0
+IsOfEnds (Values race) = ⊥
+IsOfEnds (Lines race) = ⊥
+IsOfEnds (Ends ends) = ⊤
+
+-- no group tells that runs end in different ways
+abbrev pub TellsNoEnds : List Group → Type 0
+TellsNoEnds groups = (group : Group) → Contains groups group → IsOfEnds group.first → ⊥
+
+-- where no group tells so, all that end from the scope's time up to the time that was closed end alike
+abbrev pub TellsOfEnds : Setting → Limits → Scope → Races → Type 0
+TellsOfEnds setting limits scope races = TellsNoEnds races.groups.items →
+    IfSome races.search.closed (λ top. AllEndsAgree setting limits.depart (λ time. (scope.from ≤ time) × (time ≤ top)))
+
+-- and all from the scope's time on, where the status says so
+abbrev pub TellsOfEndsThroughout : Setting → Limits → Scope → Races → Type 0
+TellsOfEndsThroughout setting limits scope races = TellsNoEnds races.groups.items → races.search.status ≡ Exhausted →
+    AllEndsAgree setting limits.depart (λ time. scope.from ≤ time)
+
+-- the cut ends that are told, if any are, are ends of runs within the limits; two are alike, but for the values that they leave
+abbrev pub IsCutValues : Setting → Limits → Races → Type 0
+IsCutValues setting limits races = (races.cut_ends.items ≡ [])
+    ⊎ (EachEnd (IsEndOfRun setting limits) (pairs_of races.cut_ends.items) × TwoCutsDiffer setting (pairs_of races.cut_ends.items))
+
+-- where neither different ends nor cut ends are told, all that end at these times leave the same values in a cut slot
+abbrev pub TellsOfCutValues : Setting → Limits → Scope → Races → Type 0
+TellsOfCutValues setting limits scope races = TellsNoEnds races.groups.items → races.cut_ends.items ≡ [] →
+    IfSome races.search.closed (λ top. AllCutAlike setting limits.depart (λ time. (scope.from ≤ time) × (time ≤ top)))
+
+abbrev pub TellsOfCutValuesThroughout : Setting → Limits → Scope → Races → Type 0
+TellsOfCutValuesThroughout setting limits scope races = TellsNoEnds races.groups.items → races.cut_ends.items ≡ [] →
+    races.search.status ≡ Exhausted → AllCutAlike setting limits.depart (λ time. scope.from ≤ time)
+
+-- none ends at these times
+abbrev pub NoneEnds : Setting → ℕ → (ℕ → Type 0) → Type 0
+NoneEnds setting depart Within = (log : List (ℕ × ℕ)) (steps : ℕ) → length log ≤ depart → EndsAfter (rules_of setting) log steps →
+    Within (state_after setting log steps).queue.time → ⊥
+
+-- where it isn't said that a run ended, none did up to the time that was closed
+abbrev pub TellsOfNoEnd : Setting → Limits → Races → Type 0
+TellsOfNoEnd setting limits races = races.ended ≡ false →
+    IfSome races.search.closed (λ top. NoneEnds setting limits.depart (λ time. time ≤ top))
+
+-- and none does, where the status says so
+abbrev pub TellsOfNoEndThroughout : Setting → Limits → Races → Type 0
+TellsOfNoEndThroughout setting limits races = races.ended ≡ false → races.search.status ≡ Exhausted →
+    NoneEnds setting limits.depart (λ time. ⊤)
 
 -- where it isn't said that a run was cut by the time limit, none was up to the time that was closed
 abbrev pub TellsOfCuts : Setting → Limits → Races → Type 0

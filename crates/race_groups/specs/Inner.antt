@@ -1,6 +1,6 @@
 -- *internal*: Words for the contracts of calls within: what is kept of closed slots, group by group.
 use Rattle.std.specs.Prelude.{◌≡◌, ◌≢◌, Bool, false, ℕ, ◌+◌, ◌<◌, ◌≤◌, ◌⊎◌, List, [], ◌∷◌, ◌++◌, length, map, slice_get, min, Option, Some}
-use Rattle.std.specs.Prelude.{None, IfNone, IfSome}
+use Rattle.std.specs.Prelude.{None, IfNone, IfSome, if◌then◌else◌}
 use Rattle.std.specs.List.{Contains}
 use Rattle.std.proofs.Common.{append-nil, refl, subst, sym}
 use Rattle.basis.specs.declared.memory.NoMemory.{NoMemory}
@@ -29,7 +29,8 @@ use Rattle.race_groups.specs.declared.group.Difference.TheVariants.{Values, Line
 use Rattle.race_groups.specs.declared.group.Group.{Group}
 use Rattle.race_groups.specs.declared.group.Name.{Name}
 use Rattle.race_groups.specs.declared.group.Scope.{Scope}
-use Rattle.race_groups.specs.Found.{AllSummarize, AreNamedOnce, IsLogOf, IsNameIn, IsNameInOne, name_of}
+use Rattle.race_groups.specs.Found.{AllSummarize, AreNamedOnce, IsLogOf, IsNameIn, IsNameInOne, TellsNoEnds, Verdict, compared_by}
+use Rattle.race_groups.specs.Found.{cuts_slot, name_of}
 
 -- ---- groups
 
@@ -175,20 +176,46 @@ traced_by kept = tracing_of kept.causes
 
 -- ---- ends
 
--- what is seen of a state in which a run ends
-pub record Shape : Type 0 where
-  pub end : Option End
-  pub values : List Vector
-  pub printed : Option (List (List ℕ))
+-- the end as it is compared, where there is one
+abbrev pub compared_end : Option End → Option End
+compared_end None = None
+compared_end (Some end) = compared_by end.cause end
 
-abbrev pub shape_of : State → Shape
-shape_of t = record { end = end_in t; values = t.values; printed = t.printed }
+-- whether the run ended in the middle of a slot
+abbrev pub is_in_cut : Option End → Bool
+is_in_cut None = false
+is_in_cut (Some end) = cuts_slot end.cause
+
+abbrev pub cut_lines_in : State → Option (List (List ℕ))
+cut_lines_in t = if is_in_cut (end_in t) then t.printed else None
+
+abbrev pub cut_values_in : State → List Vector
+cut_values_in t = if is_in_cut (end_in t) then t.values else []
+
+-- what is compared of the end of a run, by what a machine tells of its state
+abbrev pub verdict_in : State → Verdict
+verdict_in t = record { end = compared_end (end_in t); printed = cut_lines_in t }
 
 abbrev pub AreAlike : Setting → MachineState → MachineState → Type 0
-AreAlike setting one other = (t u : State) → Stands setting one t → Stands setting other u → shape_of t ≡ shape_of u
+AreAlike setting one other = (t u : State) → Stands setting one t → Stands setting other u → verdict_in t ≡ verdict_in u
 
 abbrev pub AreUnlike : Setting → MachineState → MachineState → Type 0
-AreUnlike setting one other = (t u : State) → Stands setting one t → Stands setting other u → shape_of t ≢ shape_of u
+AreUnlike setting one other = (t u : State) → Stands setting one t → Stands setting other u → verdict_in t ≢ verdict_in u
+
+-- the same of the values that a cut slot leaves
+abbrev pub AreCutAlike : Setting → MachineState → MachineState → Type 0
+AreCutAlike setting one other = (t u : State) → Stands setting one t → Stands setting other u → cut_values_in t ≡ cut_values_in u
+
+abbrev pub AreCutUnlike : Setting → MachineState → MachineState → Type 0
+AreCutUnlike setting one other = (t u : State) → Stands setting one t → Stands setting other u → cut_values_in t ≢ cut_values_in u
+
+-- where they end alike, a cut slot leaves the same values
+abbrev pub AreWhollyAlike : Setting → MachineState → MachineState → Type 0
+AreWhollyAlike setting one other = (t u : State) → Stands setting one t → Stands setting other u → verdict_in t ≡ verdict_in u →
+    cut_values_in t ≡ cut_values_in u
+
+abbrev pub AllWhollyAlike : Setting → List (MachineState × List (ℕ × ℕ)) → MachineState × List (ℕ × ℕ) → Type 0
+AllWhollyAlike setting ends one = (end : MachineState × List (ℕ × ℕ)) → Contains ends end → AreWhollyAlike setting end.0 one.0
 
 -- no run was cut there by the time limit
 abbrev pub IsUncut : Setting → MachineState → Type 0
@@ -218,6 +245,29 @@ pub record SumsUp (setting : Setting) (ends old new : List (MachineState × List
   pub alike : (one : MachineState × List (ℕ × ℕ)) → new ≡ one ∷ [] → AllAlike setting ends one
   pub unlike : FirstTwoUnlike setting old → FirstTwoUnlike setting new
 
+-- A cut end is kept beside the first end: it is alike, but for the values that its slot leaves.
+pub record KeepsCut (setting : Setting) (ends cuts : List (MachineState × List (ℕ × ℕ))) : Type 0 where
+  pub bare : ends ≡ [] → cuts ≡ []
+  pub alike : (one other : MachineState × List (ℕ × ℕ)) → slice_get ends 0 ≡ Some one → slice_get cuts 0 ≡ Some other →
+      AreAlike setting one.0 other.0
+  pub unlike : (one other : MachineState × List (ℕ × ℕ)) → slice_get ends 0 ≡ Some one → slice_get cuts 0 ≡ Some other →
+      AreCutUnlike setting one.0 other.0
+
+-- of these ends it was kept what tells whether those that are like the first leave its values, too
+pub record SumsUpCuts (setting : Setting) (ends old_ends new_ends old new : List (MachineState × List (ℕ × ℕ))) : Type 0 where
+  pub more : List (MachineState × List (ℕ × ℕ))
+  pub is : new ≡ old ++ more
+  pub among : (end : MachineState × List (ℕ × ℕ)) → Contains more end → Contains ends end
+  pub none : new ≡ [] → (one : MachineState × List (ℕ × ℕ)) → slice_get new_ends 0 ≡ Some one → AllWhollyAlike setting ends one
+  pub kept : KeepsCut setting old_ends old → KeepsCut setting new_ends new
+
+-- the state is kept, if none was, and a cut slot leaves other values there than in the first
+pub record PutsCut (setting : Setting) (first : MachineState) (found : FoundMark MachineState)
+    (old new : List (FoundMark MachineState)) : Type 0 where
+  pub full : old ≢ [] → new ≡ old
+  pub empty : old ≡ [] → ((new ≡ old) × AreCutAlike setting first found.state)
+      ⊎ ((new ≡ old ++ found ∷ []) × AreCutUnlike setting first found.state)
+
 -- where none was kept, the first of these is the first that is
 abbrev pub KeepsFirst : List (MachineState × List (ℕ × ℕ)) → List (MachineState × List (ℕ × ℕ)) → List (MachineState × List (ℕ × ℕ)) → Type 0
 KeepsFirst ends old new = old ≡ [] → (end : MachineState × List (ℕ × ℕ)) → slice_get ends 0 ≡ Some end → slice_get new 0 ≡ Some end
@@ -237,10 +287,13 @@ differences_in found = map Values found.races.items ++ map Lines found.line_race
 pub record TakesAll (found : FoundInSlot) (old new : RaceGroups) : Type 0 where
   pub traced : traced_by new ≡ traced_by old
   pub scope : new.scope ≡ old.scope
+  pub ended : new.ended ≡ old.ended
   pub cut : new.cut_runs ≡ old.cut_runs
   pub adds : Adds (traced_by old) (Contains (differences_in found)) (group_heads old.groups.items) (group_heads new.groups.items)
   pub counts : AreApartInSlot found → Counts old.scope.names (IsNamedInSlot found) old.groups.items new.groups.items
   pub ends : SumsUp (setting_of old) (pairs_of found.ends.items) (pairs_of old.ends.items) (pairs_of new.ends.items)
+  pub cut_ends : SumsUpCuts (setting_of old) (pairs_of found.ends.items) (pairs_of old.ends.items) (pairs_of new.ends.items)
+      (pairs_of old.cut_ends.items) (pairs_of new.cut_ends.items)
 
 -- what a slot gave was taken: from the scope's time on
 pub record TakesSlot (time : ℕ) (found : FoundInSlot) (old new : RaceGroups) : Type 0 where
@@ -251,6 +304,10 @@ pub record TakesSlot (time : ℕ) (found : FoundInSlot) (old new : RaceGroups) :
   pub counts : old.scope.from ≤ time → AreApartInSlot found → Counts old.scope.names (IsNamedInSlot found) old.groups.items new.groups.items
   pub before : time < old.scope.from → new.ends.items ≡ old.ends.items
   pub ends : old.scope.from ≤ time → SumsUp (setting_of old) (pairs_of found.ends.items) (pairs_of old.ends.items) (pairs_of new.ends.items)
+  pub cuts_before : time < old.scope.from → new.cut_ends.items ≡ old.cut_ends.items
+  pub cut_ends : old.scope.from ≤ time → SumsUpCuts (setting_of old) (pairs_of found.ends.items) (pairs_of old.ends.items)
+      (pairs_of new.ends.items) (pairs_of old.cut_ends.items) (pairs_of new.cut_ends.items)
+  pub ended : new.ended ≡ false → (old.ended ≡ false) × (found.ends.items ≡ [])
   pub cut : new.cut_runs ≡ false → (old.cut_runs ≡ false) × AreUncut (setting_of old) (pairs_of found.ends.items)
 
 -- what is new stands behind what there was
@@ -260,6 +317,8 @@ pub record GrowsBehind (old new : RaceGroups) : Type 0 where
   pub groups : GrowsTo (group_heads old.groups.items) (group_heads new.groups.items)
   pub still : CountsStill old.scope.names old.groups.items new.groups.items
   pub ends : GrowsTo old.ends.items new.ends.items
+  pub cut_ends : GrowsTo old.cut_ends.items new.cut_ends.items
+  pub ended : new.ended ≡ false → old.ended ≡ false
   pub cut : new.cut_runs ≡ false → old.cut_runs ≡ false
 
 -- no more is kept than was
@@ -269,6 +328,8 @@ pub record StaysSo (old new : RaceGroups) : Type 0 where
   pub groups : group_heads new.groups.items ≡ group_heads old.groups.items
   pub still : CountsStill old.scope.names old.groups.items new.groups.items
   pub ends : new.ends.items ≡ old.ends.items
+  pub cut_ends : new.cut_ends.items ≡ old.cut_ends.items
+  pub ended : new.ended ≡ false → old.ended ≡ false
   pub cut : new.cut_runs ≡ false → old.cut_runs ≡ false
 
 -- ---- closings
@@ -359,10 +420,19 @@ pub record AreGroupsOf (tracing : Tracing) (scope : Scope) (groups : List Group)
   pub uncut : cut ≡ false → OfEach closings (λ c. OfEnds tracing.setting c.marks (AreUncut tracing.setting))
   pub last_seen : IsLastSeen seen closings
 
-abbrev pub KeepsGroups : Tracing → Scope → RaceGroups → List (Closing MachineState) → Type 0
-KeepsGroups tracing scope kept closings =
-    AreGroupsOf tracing scope kept.groups.items (group_heads kept.groups.items)
-    (pairs_of kept.ends.items) kept.cut_runs kept.seen kept.refused closings
+-- what is kept of cut ends, beside the ends
+pub record AreCutsOf (setting : Setting) (from : ℕ) (ends cuts : List (MachineState × List (ℕ × ℕ)))
+    (closings : List (Closing MachineState)) : Type 0 where
+  pub each : (end : MachineState × List (ℕ × ℕ)) → Contains cuts end → IsEndOfSome setting from closings end
+  pub none : cuts ≡ [] → (one : MachineState × List (ℕ × ℕ)) → slice_get ends 0 ≡ Some one →
+      OfEachFrom from closings (λ marks. OfEnds setting marks (λ list. AllWhollyAlike setting list one))
+  pub kept : KeepsCut setting ends cuts
+
+pub record KeepsGroups (tracing : Tracing) (scope : Scope) (kept : RaceGroups) (closings : List (Closing MachineState)) : Type 0 where
+  pub groups : AreGroupsOf tracing scope kept.groups.items (group_heads kept.groups.items)
+      (pairs_of kept.ends.items) kept.cut_runs kept.seen kept.refused closings
+  pub cuts : AreCutsOf tracing.setting scope.from (pairs_of kept.ends.items) (pairs_of kept.cut_ends.items) closings
+  pub unended : kept.ended ≡ false → OfEach closings (λ c. AreEndsOf tracing.setting c.marks [])
 
 -- what collecting these closings makes of groups that kept what there was before
 pub record CollectsGroups (first : RaceGroups) (closings : List (Closing MachineState)) (now : RaceGroups) : Type 0 where
@@ -398,9 +468,14 @@ pub record IsGroupOfEnds (tracing : Tracing) (ends : List (FoundMark MachineStat
   pub more : group.more ≡ 0
   pub tells : TellsEnds ends group.first
 
--- the groups that were kept, or, where there is none and two ends aren't alike, a group of these
+-- the groups that were kept, and where two ends differ, a group of these behind them
 pub record AreTold (tracing : Tracing) (kept : RaceGroups) (groups : List Group) : Type 0 where
-  pub none : groups ≡ [] → (kept.groups.items ≡ []) × (length kept.ends.items ≤ 1)
-  pub whole : (groups ≡ kept.groups.items) ⊎ ((kept.groups.items ≡ []) × AllSummarize kept.scope.names groups (λ place. []))
-  pub each : (group : Group) → Contains groups group →
-      Contains kept.groups.items group ⊎ ((1 < length kept.ends.items) × IsGroupOfEnds tracing kept.ends.items group)
+  pub none : TellsNoEnds groups → length kept.ends.items ≤ 1
+  pub whole : (groups ≡ kept.groups.items) ⊎ ((group : Group) × (groups ≡ kept.groups.items ++ group ∷ [])
+      × (1 < length kept.ends.items) × IsGroupOfEnds tracing kept.ends.items group)
+
+-- the end that was kept with the cut end beside it; nothing where there is no cut end, or two ends differ
+pub record AreCutsTold (kept : RaceGroups) (told : List (FoundMark MachineState)) : Type 0 where
+  pub whole : (told ≡ []) ⊎ ((told ≡ kept.ends.items ++ kept.cut_ends.items) × (length kept.ends.items ≤ 1)
+      × (kept.cut_ends.items ≢ []))
+  pub none : told ≡ [] → length kept.ends.items ≤ 1 → kept.cut_ends.items ≡ []

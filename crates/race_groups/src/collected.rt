@@ -14,16 +14,18 @@ use statebook::Limits;
 use std::alloc::Global;
 use vmachine::{Machine, MachineState};
 
-/// What is kept of closed slots: the groups of their differences, at most two of the states in which runs end, that aren't alike,
-/// whether a run was cut by the time limit, the time of the last slot of which a mark was seen, and the want of memory that was met
-/// meanwhile.
+/// What is kept of closed slots: the groups of their differences; at most two of the states in which runs end, that aren't alike; at most
+/// one that is like the first of them, but for the values that a cut slot leaves; whether a run ended, and whether one was cut by the time
+/// limit; the time of the last slot of which a mark was seen, and the want of memory that was met meanwhile.
 #[derive(Drop)]
 pub(crate) struct RaceGroups<'m> {
     pub(crate) causes: Causes<'m>,
     pub(crate) scope: Scope,
     pub(crate) groups: Vec<Group>,
     pub(crate) ends: Vec<FoundMark<MachineState>>,
+    pub(crate) cut_ends: Vec<FoundMark<MachineState>>,
     pub(crate) ignored: u64,
+    pub(crate) ended: bool,
     pub(crate) cut_runs: bool,
     pub(crate) seen: Option<u64>,
     pub(crate) refused: Option<NoMemory>,
@@ -39,6 +41,13 @@ fn either(one: bool, other: bool) -> bool
     ensures { result ≡ false → (one ≡ false) × (other ≡ false) }
 {
     one || other
+}
+
+// Whether a run ends in one of these.
+fn some_ends(ends: &[FoundMark<MachineState>]) -> bool
+    ensures { result ≡ false → ends.now ≡ [] }
+{
+    !ends.is_empty()
 }
 
 // The time of the last slot of which a mark was seen, once one more was closed, with so many marks.
@@ -66,7 +75,9 @@ impl<'m> RaceGroups<'m> {
             scope: *scope,
             groups: Vec::new(alloc),
             ends: Vec::new(alloc),
+            cut_ends: Vec::new(alloc),
             ignored: 0,
+            ended: false,
             cut_runs: false,
             seen: None,
             refused: None,
@@ -92,7 +103,12 @@ impl<'m> RaceGroups<'m> {
             self.scope.names,
             &line_races,
         )?;
-        put_ends(self.causes.machine(), &mut self.ends, ends)
+        put_ends(
+            self.causes.machine(),
+            &mut self.ends,
+            &mut self.cut_ends,
+            ends,
+        )
     }
 
     // What the slot of this time gave.
@@ -104,6 +120,7 @@ impl<'m> RaceGroups<'m> {
     {
         let is_cut = some_is_cut(self.causes.machine(), &found.ends);
         self.cut_runs = either(self.cut_runs, is_cut);
+        self.ended = either(self.ended, some_ends(&found.ends));
         if time < self.scope.from {
             self.ignored = self.ignored.saturating_add(count_of(&found));
             return Ok(());
@@ -111,18 +128,21 @@ impl<'m> RaceGroups<'m> {
         self.put_found(found)
     }
 
-    // No more than so many groups and ends, as memory was refused.
-    fn forget_behind(&mut self, groups: usize, ends: usize, refused: NoMemory)
+    // No more than so many groups, ends and cut ends, as memory was refused.
+    fn forget_behind(&mut self, groups: usize, ends: usize, cut_ends: usize, refused: NoMemory)
         ensures traced { traced_by self.new ≡ traced_by self.old }
         ensures scope { self.new.scope ≡ self.old.scope }
         ensures groups { self.new.groups.items ≡ take groups self.old.groups.items }
         ensures ends { self.new.ends.items ≡ take ends self.old.ends.items }
+        ensures cut_ends { self.new.cut_ends.items ≡ take cut_ends self.old.cut_ends.items }
+        ensures ended { self.new.ended ≡ self.old.ended }
         ensures cut { self.new.cut_runs ≡ self.old.cut_runs }
         ensures seen { self.new.seen ≡ self.old.seen }
         ensures refused { self.new.refused ≡ Some refused }
     {
         self.groups.truncate(groups);
         self.ends.truncate(ends);
+        self.cut_ends.truncate(cut_ends);
         self.refused = Some(refused);
     }
 }
@@ -143,13 +163,14 @@ impl<'m> Collector<MachineState> for RaceGroups<'m> {
         let found = found_in(self.causes.alloc, self.causes.machine(), closed.marks)?;
         let groups = self.groups.len();
         let ends = self.ends.len();
+        let cut_ends = self.cut_ends.len();
         match self.put_slot(closed.rank, found) {
             Ok(()) => {
                 self.seen = seen_by(self.seen, closed.rank, marks);
                 Ok(())
             }
             Err(refused) => {
-                self.forget_behind(groups, ends, refused);
+                self.forget_behind(groups, ends, cut_ends, refused);
                 Err(refused)
             }
         }

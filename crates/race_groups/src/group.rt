@@ -84,6 +84,11 @@ pub struct Races {
     pub groups: Vec<Group>,
     /// How many differences there were before the time from which on they are told.
     pub ignored: u64,
+    /// Where all runs end alike, but a slot that `$finish` or `$stop` cuts leaves different values: two such ends, one of the fewest
+    /// departures first. Else none.
+    pub cut_ends: Vec<FoundMark<MachineState>>,
+    /// Whether a run ended, at whichever time.
+    pub ended: bool,
     /// Whether a run ended by the time limit.
     pub cut_runs: bool,
     /// The want of memory, if it was met while the differences of a slot were put into groups: these may count some of that slot then,

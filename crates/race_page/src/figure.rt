@@ -5,12 +5,11 @@ use crate::lane::{HEIGHT, WIDTH, column_at, put_lane};
 use crate::shape::{Extent, put_rectangle, put_text};
 use crate::signals::Signals;
 use basis::NoMemory;
-use race_facts::put_time;
+use finding_text::put_time;
 use run_pair::{Runs, Waves};
 use std::alloc::Global;
 use vbits::Vec4;
-use vdesign::design::Variable;
-use vmachine::Machine;
+use vdesign::design::{Design, Variable};
 
 // Where the first signal begins.
 const TOP: u64 = 30;
@@ -30,7 +29,7 @@ const WIDEST: u64 = 320;
 struct Figure<'a> {
     alloc: Global,
     runs: &'a Runs,
-    machine: &'a Machine,
+    design: &'a Design,
     left: u64,
 }
 
@@ -90,7 +89,7 @@ impl<'a> Figure<'a> {
             put_rectangle(page, "slot", self.extent(column, 0), height)?;
         }
         let mut text = Vec::new(self.alloc);
-        put_time(&mut text, self.machine, time)?;
+        put_time(&mut text, self.design, time)?;
         let extent = Extent {
             x: column_at(self.left, column).saturating_add(4),
             y: 18,
@@ -188,8 +187,9 @@ impl<'a> Figure<'a> {
 
     // The signals of these numbers, one below the other.
     fn put_signals(&self, page: &mut Vec<u8>, shown: &[usize]) -> Result<(), NoMemory> {
+        let design = self.design;
         for (place, number) in shown.iter().enumerate() {
-            if let Some(variable) = self.machine.design().variables.get(*number) {
+            if let Some(variable) = design.variables.get(*number) {
                 let y = TOP.saturating_add(SIGNAL.saturating_mul(place as u64));
                 self.put_signal(page, *number, variable, y)?;
             }
@@ -237,14 +237,14 @@ pub(crate) fn put_figure(
     alloc: Global,
     page: &mut Vec<u8>,
     runs: &Runs,
-    machine: &Machine,
+    design: &Design,
     signals: &Signals,
 ) -> Result<(), NoMemory> {
-    let left = left_of(&machine.design().variables, &signals.shown);
+    let left = left_of(&design.variables, &signals.shown);
     let figure = Figure {
         alloc,
         runs,
-        machine,
+        design,
         left,
     };
     let rows = SIGNAL.saturating_mul(signals.shown.len() as u64);

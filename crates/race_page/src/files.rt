@@ -1,7 +1,7 @@
 // The lines of the files.
 
 use basis::NoMemory;
-use race_facts::Sources;
+use finding_text::Sources;
 use std::alloc::Global;
 use vsrc::Place;
 

@@ -2,8 +2,7 @@
 
 use basis::NoMemory;
 use itoa::Buffer;
-use value_text::put_hexadecimal;
-use vbits::Vec4;
+use shown_text::{shown_text, whole_letters};
 
 /// A piece of a page.
 #[derive(Clone, Copy)]
@@ -41,74 +40,22 @@ fn entity(byte: u8) -> Option<&'static str> {
     }
 }
 
-// Whether the byte is a control character that moves more than the place on the line.
-fn is_control(byte: u8) -> bool {
-    if byte == b'\t' || byte == b'\n' {
-        return false;
-    }
-    byte < b' ' || byte == 127
-}
-
-// `\x1b`: the byte by its two hexadecimal digits.
-fn put_code(page: &mut Vec<u8>, byte: u8) -> Result<(), NoMemory> {
-    put(page, "\\x")?;
-    put_hexadecimal(page, Vec4::from_u64(8, u64::from(byte)))
-}
-
-// A byte of UTF-8.
+// A byte of what may be shown.
 fn put_byte(page: &mut Vec<u8>, byte: u8) -> Result<(), NoMemory> {
     if let Some(text) = entity(byte) {
         return put(page, text);
-    }
-    if is_control(byte) {
-        return put_code(page, byte);
     }
     page.push(byte)?;
     Ok(())
 }
 
-// Bytes of UTF-8.
-fn put_bytes(page: &mut Vec<u8>, bytes: &[u8]) -> Result<(), NoMemory> {
-    for byte in bytes {
-        put_byte(page, *byte)?;
-    }
-    Ok(())
-}
-
-// Bytes that are no UTF-8.
-fn put_codes(page: &mut Vec<u8>, bytes: &[u8]) -> Result<(), NoMemory> {
-    for byte in bytes {
-        put_code(page, *byte)?;
-    }
-    Ok(())
-}
-
-// The bytes as text: what HTML would take for marks is written so that it doesn't, and control characters and what is no UTF-8 as `\x1b`.
+// The bytes as text: what HTML would take for marks is written so that it doesn't, and letters that aren't shown stand by their numbers.
 fn put_escaped(page: &mut Vec<u8>, bytes: &[u8]) -> Result<(), NoMemory> {
-    for chunk in bytes.utf8_chunks() {
-        put_bytes(page, chunk.valid().as_bytes())?;
-        put_codes(page, chunk.invalid())?;
+    let alloc = *page.allocator();
+    for byte in shown_text(alloc, bytes)? {
+        put_byte(page, byte)?;
     }
     Ok(())
-}
-
-// Whether a byte goes on with a letter of UTF-8.
-fn goes_on(byte: Option<&u8>) -> bool {
-    match byte {
-        None => false,
-        Some(byte) => *byte >= 128 && *byte < 192,
-    }
-}
-
-// How many of the first so many bytes are whole letters.
-fn whole_letters(bytes: &[u8], most: usize) -> usize {
-    for back in 0..4usize {
-        let at = most.saturating_sub(back);
-        if !goes_on(bytes.get(at)) {
-            return at;
-        }
-    }
-    most
 }
 
 /// The bytes as text, of which the first so many are shown, and then `..`.

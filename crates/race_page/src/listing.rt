@@ -4,13 +4,12 @@ use crate::files::Files;
 use crate::html::{Piece, put, put_all, put_cut};
 use crate::time::put_at;
 use basis::NoMemory;
-use cause::Cause;
-use race_facts::{port_of, put_port};
+use finding_text::{named_log, port_of, put_port};
+use race_findings::{Setting, Statements};
 use race_words::put_value;
 use run_pair::{Change, Row, Runs, Seen, Steps};
-use sched_core::{LogHead, write_named_log};
 use std::alloc::Global;
-use vmachine::Machine;
+use vdesign::design::{Design, Variable};
 use vsrc::Place;
 
 // How many bytes of a statement are shown.
@@ -23,9 +22,9 @@ const VALUE: usize = 24;
 #[derive(Clone, Copy)]
 pub(crate) struct Subject<'a> {
     pub(crate) alloc: Global,
-    pub(crate) machine: &'a Machine,
+    pub(crate) setting: Setting<'a>,
     pub(crate) files: &'a Files<'a>,
-    pub(crate) cause: &'a Option<Cause>,
+    pub(crate) statements: &'a Option<Statements>,
 }
 
 // The name of a file without its folders.
@@ -48,14 +47,14 @@ pub(crate) fn slot_of(runs: &Runs) -> Option<u64> {
 }
 
 // The heading of the steps, with the slot of this time; without one they go to the end of the run.
-fn put_heading(page: &mut Vec<u8>, machine: &Machine, time: Option<u64>) -> Result<(), NoMemory> {
+fn put_heading(page: &mut Vec<u8>, design: &Design, time: Option<u64>) -> Result<(), NoMemory> {
     put(
         page,
         "<h3>The steps from where the runs part to the end of ",
     )?;
     match time {
         None => put(page, "the run</h3>\n"),
-        Some(time) => put_at(page, machine, "the slot at ", time, "</h3>\n"),
+        Some(time) => put_at(page, design, "the slot at ", time, "</h3>\n"),
     }
 }
 
@@ -89,33 +88,39 @@ fn put_gap(page: &mut Vec<u8>, gap: u64) -> Result<(), NoMemory> {
     )
 }
 
-impl<'a> Subject<'a> {
-    // Behind this mark `tb.a: 0 → 1`.
-    fn put_change(&self, page: &mut Vec<u8>, mark: &str, change: &Change) -> Result<(), NoMemory> {
-        let Some(variable) = self.machine.design().variables.get(change.variable) else {
-            return Ok(());
-        };
-        let (mut before, mut after) = (Vec::new(self.alloc), Vec::new(self.alloc));
-        put_value(&mut before, variable, change.before)?;
-        put_value(&mut after, variable, change.after)?;
-        put_all(
-            page,
-            &[
-                Piece::Mark(mark),
-                Piece::Text(&variable.name),
-                Piece::Mark(": "),
-                Piece::Cut(&before, VALUE),
-                Piece::Mark(" → "),
-                Piece::Cut(&after, VALUE),
-            ],
-        )
-    }
+// Behind this mark `tb.a: 0 → 1`, of this variable.
+fn put_change<'x>(
+    alloc: Global,
+    page: &mut Vec<u8>,
+    mark: &'x str,
+    variable: &'x Variable,
+    change: &Change,
+) -> Result<(), NoMemory> {
+    let (mut before, mut after) = (Vec::new(alloc), Vec::new(alloc));
+    put_value(&mut before, variable, change.before)?;
+    put_value(&mut after, variable, change.after)?;
+    put_all(
+        page,
+        &[
+            Piece::Mark(mark),
+            Piece::Text(&variable.name),
+            Piece::Mark(": "),
+            Piece::Cut(&before, VALUE),
+            Piece::Mark(" → "),
+            Piece::Cut(&after, VALUE),
+        ],
+    )
+}
 
+impl<'a> Subject<'a> {
     // What the step changes.
     fn put_changes(&self, page: &mut Vec<u8>, row: &Row) -> Result<(), NoMemory> {
+        let design = self.setting.design;
         let mut mark = "";
         for change in &row.changes {
-            self.put_change(page, mark, change)?;
+            if let Some(variable) = design.variables.get(change.variable) {
+                put_change(self.alloc, page, mark, variable, change)?;
+            }
             mark = "<br>";
         }
         if row.more == 0 {
@@ -133,7 +138,7 @@ impl<'a> Subject<'a> {
 
     // What the statement of the action says; of a port connection which port of which instance it is: `.d(q) of u1`.
     fn put_source(&self, page: &mut Vec<u8>, action: usize, place: Place) -> Result<(), NoMemory> {
-        match port_of(self.machine.design(), self.files.sources(), action) {
+        match port_of(self.setting.design, self.files.sources(), action) {
             None => put_cut(page, self.files.source(place), SOURCE),
             Some(port) => {
                 let mut text = Vec::new(self.alloc);
@@ -159,9 +164,9 @@ impl<'a> Subject<'a> {
 
     // Whether the step is of one of the two statements that race. A process that went another way is somewhere else there.
     fn races(&self, row: &Row) -> bool {
-        match (self.cause, row.action) {
-            (Some(cause), Some(action)) => {
-                row.races && (action == cause.first.place || action == cause.second.place)
+        match (self.statements, row.action) {
+            (Some(both), Some(action)) => {
+                row.races && (action == both.first.action || action == both.second.action)
             }
             _ => row.races,
         }
@@ -199,8 +204,7 @@ impl<'a> Subject<'a> {
 
     // The name of a run, its log as `--log` takes it, and what the columns of its steps are.
     fn put_front(&self, page: &mut Vec<u8>, name: &str, seen: &Seen) -> Result<(), NoMemory> {
-        let head = LogHead::Named(self.machine.grain(), self.machine.departures());
-        let log = write_named_log(self.alloc, head, &seen.log)?;
+        let log = named_log(self.alloc, self.setting, &seen.log)?;
         put(
             page,
             "<div class=\"wide\" tabindex=\"0\"><table>\n<caption>",
@@ -230,7 +234,7 @@ impl<'a> Subject<'a> {
 
     /// The steps of both runs side by side, from the one at which they part to the end of its slot.
     pub(crate) fn put_listing(&self, page: &mut Vec<u8>, runs: &Runs) -> Result<(), NoMemory> {
-        put_heading(page, self.machine, slot_of(runs))?;
+        put_heading(page, self.setting.design, slot_of(runs))?;
         put(page, "<div class=\"runs\">\n")?;
         self.put_run(page, "default", &runs.parent)?;
         self.put_run(page, "departed", &runs.departed)?;

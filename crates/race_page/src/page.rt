@@ -11,20 +11,23 @@ use crate::style::{END, HEAD};
 use crate::table::put_table;
 use crate::time::put_at;
 use basis::NoMemory;
-use cause::Cause;
-use race_facts::Sources;
-use race_groups::{Difference, Group, Races};
+use finding_text::{START, START_CURE, Sources, named_instances};
+use race_findings::{
+    Aspect, Difference, Finding, RacingStatement, Setting, Statements, is_first_at_start,
+};
 use run_pair::{Marked, Runs};
 use std::alloc::Global;
+use vdesign::design::Design;
 use vmachine::Machine;
 
-/// What a page tells of a top module: the races of its machine, the files that they are of, how many there are in words, and what is told
-/// of each in words, in their order.
+/// What a page tells of a top module: of which runs, the machine that makes them, the files that they are of, the races, how many there are in
+/// words, and what is told of each in words, in their order.
 #[derive(Clone, Copy)]
 pub struct TopRaces<'a> {
+    pub setting: Setting<'a>,
     pub machine: &'a Machine,
     pub sources: &'a Sources<'a>,
-    pub races: &'a Races,
+    pub races: &'a [Finding],
     pub summary: &'a [u8],
     pub words: &'a [Vec<u8>],
 }
@@ -63,45 +66,66 @@ fn first_line(text: &[u8]) -> (&[u8], &[u8]) {
 
 // The time of the slot in which both runs differ, where one does.
 fn time_of(difference: &Difference) -> Option<u64> {
-    match difference {
-        Difference::Values(race) => Some(race.time),
-        Difference::Lines(race) => Some(race.time),
-        Difference::Ends(_) => None,
+    match &difference.aspect {
+        Aspect::Variable(_) => Some(difference.time),
+        Aspect::Lines => Some(difference.time),
+        Aspect::Ends(_) => None,
+    }
+}
+
+// The step of the statement, in the run under the log or in its parent.
+fn step_in(racing: &RacingStatement, in_run: bool) -> Option<u32> {
+    if in_run {
+        racing.in_run
+    } else {
+        racing.in_parent
     }
 }
 
 // The steps of the two statements that race, in the run under the log or in its parent.
-fn marked_in(cause: &Option<Cause>, in_run: bool) -> Marked {
-    match cause {
+fn marked_in(statements: &Option<Statements>, in_run: bool) -> Marked {
+    match statements {
         None => Marked {
             one: None,
             other: None,
         },
-        Some(cause) if in_run => Marked {
-            one: cause.first.in_run,
-            other: cause.second.in_run,
-        },
-        Some(cause) => Marked {
-            one: cause.first.in_parent,
-            other: cause.second.in_parent,
+        Some(both) => Marked {
+            one: step_in(&both.second, in_run),
+            other: step_in(&both.first, in_run),
         },
     }
 }
 
-// `, tb.v:10 and tb.v:12`: the lines of both statements, where they are known.
-fn put_lines(page: &mut Vec<u8>, files: &Files<'_>, group: &Group) -> Result<(), NoMemory> {
-    let Some(cause) = &group.cause else {
+// ` in tb.u1`, where the instance is to be named.
+fn put_instance(page: &mut Vec<u8>, instance: Option<&[u8]>) -> Result<(), NoMemory> {
+    match instance {
+        None => Ok(()),
+        Some(path) => put_all(page, &[Piece::Mark(" in "), Piece::Text(path)]),
+    }
+}
+
+// `, tb.v:10 and tb.v:12`: the lines of both statements, where they are known; with their instances, where both are one line of two.
+fn put_lines(
+    page: &mut Vec<u8>,
+    design: &Design,
+    files: &Files<'_>,
+    finding: &Finding,
+) -> Result<(), NoMemory> {
+    let Some(statements) = &finding.statements else {
         return Ok(());
     };
     let places = (
-        files.place(cause.second.statement),
-        files.place(cause.first.statement),
+        files.place(statements.first.statement),
+        files.place(statements.second.statement),
     );
     let (Some(one), Some(other)) = places else {
         return Ok(());
     };
+    let (first, second) = named_instances(design, files.sources(), statements);
     put_line_of(page, ", ", files, one)?;
-    put_line_of(page, " and ", files, other)
+    put_instance(page, first)?;
+    put_line_of(page, " and ", files, other)?;
+    put_instance(page, second)
 }
 
 // A race in the list: a link to the race of this number, and the lines of both statements.
@@ -109,7 +133,8 @@ fn put_item(
     page: &mut Vec<u8>,
     number: u64,
     text: &[u8],
-    group: &Group,
+    finding: &Finding,
+    design: &Design,
     files: &Files<'_>,
 ) -> Result<(), NoMemory> {
     put_all(
@@ -122,7 +147,7 @@ fn put_item(
             Piece::Mark("</a>"),
         ],
     )?;
-    put_lines(page, files, group)?;
+    put_lines(page, design, files, finding)?;
     put(page, "</li>\n")
 }
 
@@ -132,17 +157,51 @@ fn put_list(
     page: &mut Vec<u8>,
     first: u64,
     words: &[Vec<u8>],
-    groups: &[Group],
+    races: &[Finding],
+    design: &Design,
     files: &Files<'_>,
 ) -> Result<(), NoMemory> {
     put(page, "<nav aria-label=\"races\">\n<ul>\n")?;
-    for (place, group) in groups.iter().enumerate() {
+    for (place, finding) in races.iter().enumerate() {
         if let Some(words) = words.get(place) {
             let number = first.saturating_add(place as u64);
-            put_item(page, number, first_line(words).0, group, files)?;
+            put_opening(page, races, place)?;
+            put_item(page, number, first_line(words).0, finding, design, files)?;
         }
     }
-    put(page, "</ul>\n</nav>\n")
+    put(page, "</ul>\n")?;
+    put_closing(page, races)?;
+    put(page, "</nav>\n")
+}
+
+// What stands in the list before the race of this place: a heading, where it is the first of those that show at time 0.
+fn put_opening(page: &mut Vec<u8>, races: &[Finding], place: usize) -> Result<(), NoMemory> {
+    if !is_first_at_start(races, place) {
+        return Ok(());
+    }
+    put_all(
+        page,
+        &[
+            Piece::Mark("</ul>\n<p>"),
+            Piece::Text(START),
+            Piece::Mark("</p>\n<ul>\n"),
+        ],
+    )
+}
+
+// How the races that show at time 0 are mostly cured, where there are such: the last one is.
+fn put_closing(page: &mut Vec<u8>, races: &[Finding]) -> Result<(), NoMemory> {
+    match races.last() {
+        Some(finding) if finding.is_at_start() => put_all(
+            page,
+            &[
+                Piece::Mark("<p>"),
+                Piece::Text(START_CURE),
+                Piece::Mark("</p>\n"),
+            ],
+        ),
+        _ => Ok(()),
+    }
 }
 
 // `<h1>Races of tb</h1>`, and the begin of what is told first.
@@ -181,28 +240,28 @@ fn put_words(page: &mut Vec<u8>, words: &[u8]) -> Result<(), NoMemory> {
 fn put_runs(
     alloc: Global,
     page: &mut Vec<u8>,
-    machine: &Machine,
+    setting: Setting<'_>,
     files: &Files<'_>,
-    group: &Group,
+    finding: &Finding,
     runs: &Runs,
 ) -> Result<(), NoMemory> {
-    let variables = machine.design().variables.len();
-    let signals = signals_of(alloc, group, runs, variables)?;
+    let design = setting.design;
+    let signals = signals_of(alloc, finding, runs, design.variables.len())?;
     put_at(
         page,
-        machine,
+        design,
         "<h3>The waveforms round the slot at ",
         runs.time,
         "</h3>\n",
     )?;
-    put_figure(alloc, page, runs, machine, &signals)?;
-    put_table(alloc, page, runs, machine, &signals.shown)?;
-    put_printed(page, machine, &group.first, runs)?;
+    put_figure(alloc, page, runs, design, &signals)?;
+    put_table(alloc, page, runs, design, &signals.shown)?;
+    put_printed(page, design, &finding.first, runs)?;
     let subject = Subject {
         alloc,
-        machine,
+        setting,
         files,
-        cause: &group.cause,
+        statements: &finding.statements,
     };
     subject.put_listing(page, runs)
 }
@@ -220,15 +279,15 @@ impl Page {
         })
     }
 
-    // Both runs of the group.
-    fn runs_of(&self, machine: &Machine, group: &Group) -> Result<Runs, NoMemory> {
+    // Both runs of the race.
+    fn runs_of(&self, machine: &Machine, finding: &Finding) -> Result<Runs, NoMemory> {
         Runs::new(
             self.alloc,
             machine,
-            &group.log,
-            time_of(&group.first),
-            marked_in(&group.cause, true),
-            marked_in(&group.cause, false),
+            &finding.log,
+            time_of(&finding.first),
+            marked_in(&finding.statements, true),
+            marked_in(&finding.statements, false),
             self.steps,
         )
     }
@@ -236,9 +295,9 @@ impl Page {
     // A race: what is told of it in words, both statements, and both runs.
     fn put_race(
         &mut self,
-        machine: &Machine,
+        top: &TopRaces<'_>,
         files: &Files<'_>,
-        group: &Group,
+        finding: &Finding,
         words: &[u8],
     ) -> Result<(), NoMemory> {
         self.races = self.races.saturating_add(1);
@@ -251,12 +310,19 @@ impl Page {
             ],
         )?;
         put_words(&mut self.text, words)?;
-        let runs = self.runs_of(machine, group)?;
-        if let Some(cause) = &group.cause {
-            put_heading(&mut self.text, machine, slot_of(&runs))?;
-            put_sources(self.alloc, &mut self.text, files, cause)?;
+        let runs = self.runs_of(top.machine, finding)?;
+        if let Some(statements) = &finding.statements {
+            put_heading(&mut self.text, top.setting.design, slot_of(&runs))?;
+            put_sources(self.alloc, &mut self.text, files, statements)?;
         }
-        put_runs(self.alloc, &mut self.text, machine, files, group, &runs)?;
+        put_runs(
+            self.alloc,
+            &mut self.text,
+            top.setting,
+            files,
+            finding,
+            &runs,
+        )?;
         put(
             &mut self.text,
             "<p><a href=\"#top\">All races</a></p>\n</section>\n",
@@ -265,7 +331,8 @@ impl Page {
 
     // What stands before the races of a top module: its name, how many races there are, what wasn't looked at, and the list.
     fn put_head(&mut self, top: &TopRaces<'_>, files: &Files<'_>) -> Result<(), NoMemory> {
-        put_title(&mut self.text, &top.machine.design().top)?;
+        let design = top.setting.design;
+        put_title(&mut self.text, &design.top)?;
         put_all(
             &mut self.text,
             &[Piece::Text(top.summary), Piece::Mark("</p>\n")],
@@ -275,7 +342,7 @@ impl Page {
         }
         put_all(&mut self.text, &[Piece::Mark(NAMES), Piece::Mark(LEGEND)])?;
         let first = self.races.saturating_add(1);
-        put_list(&mut self.text, first, top.words, &top.races.groups, files)
+        put_list(&mut self.text, first, top.words, top.races, design, files)
     }
 
     /// What was found of a top module: a list of all races, and of each what is told of it in words, both statements in their files, the
@@ -283,9 +350,9 @@ impl Page {
     pub fn tell(&mut self, top: &TopRaces<'_>) -> Result<(), NoMemory> {
         let files = Files::new(self.alloc, top.sources)?;
         self.put_head(top, &files)?;
-        for (place, group) in top.races.groups.iter().enumerate() {
+        for (place, finding) in top.races.iter().enumerate() {
             if let Some(words) = top.words.get(place) {
-                self.put_race(top.machine, &files, group, words)?;
+                self.put_race(top, &files, finding, words)?;
             }
         }
         Ok(())

@@ -3,48 +3,32 @@
 use crate::html::{Piece, put, put_all};
 use crate::time::put_at;
 use basis::NoMemory;
-use explore::FoundMark;
-use race_groups::Difference;
-use racebook::LineRace;
+use race_findings::{Aspect, Difference, Evidence};
 use run_pair::Runs;
 use sched_core::Log;
 use sched_core::bag::Bag;
-use vmachine::{Machine, MachineState};
+use vdesign::design::Design;
 
 // How many bytes of a line are shown.
 const LINE: usize = 160;
 
-// The lines that the slot printed in the run under the log, if that is one of the sides.
-fn side_of<'a>(race: &'a LineRace, log: &Log) -> Option<&'a Bag> {
-    for side in &race.sides {
+// The lines that a side shows, if it shows lines.
+fn lines_in(evidence: &Evidence) -> Option<&Bag> {
+    match evidence {
+        Evidence::Value(_) => None,
+        Evidence::Lines(lines) => Some(lines),
+        Evidence::End(run) => run.lines.as_ref(),
+    }
+}
+
+// The lines that the slot, or the last one, printed in the run under the log, if that is one of the sides.
+fn lines_of<'a>(difference: &'a Difference, log: &Log) -> Option<&'a Bag> {
+    for side in &difference.sides {
         if side.log.members() == log.members() {
-            return Some(&side.lines);
+            return lines_in(&side.evidence);
         }
     }
     None
-}
-
-// The lines that the last slot printed in the run under the log, if it is one of those that end so.
-fn end_of<'a>(
-    machine: &Machine,
-    ends: &'a [FoundMark<MachineState>],
-    log: &Log,
-) -> Option<&'a Bag> {
-    for found in ends {
-        if found.log.members() == log.members() {
-            return machine.printed(&found.state);
-        }
-    }
-    None
-}
-
-// The lines that the run under the log printed, of a difference of lines or of ends.
-fn lines_of<'a>(machine: &Machine, difference: &'a Difference, log: &Log) -> Option<&'a Bag> {
-    match difference {
-        Difference::Values(_) => None,
-        Difference::Lines(race) => side_of(race, log),
-        Difference::Ends(ends) => end_of(machine, ends, log),
-    }
 }
 
 // Whether the lines are those of the other run.
@@ -83,17 +67,13 @@ const HEADS: &str =
     "</caption>\n<tr><th scope=\"col\">default</th><th scope=\"col\">departed</th></tr>\n<tr class=\"differs\">";
 
 // The front of the table, with the slot in which the lines were printed.
-fn put_front(
-    page: &mut Vec<u8>,
-    machine: &Machine,
-    difference: &Difference,
-) -> Result<(), NoMemory> {
+fn put_front(page: &mut Vec<u8>, design: &Design, difference: &Difference) -> Result<(), NoMemory> {
     put(
         page,
         "<div class=\"wide\" tabindex=\"0\"><table>\n<caption>Printed in the ",
     )?;
-    match difference {
-        Difference::Lines(race) => put_at(page, machine, "slot at ", race.time, HEADS),
+    match &difference.aspect {
+        Aspect::Lines => put_at(page, design, "slot at ", difference.time, HEADS),
         _ => put_all(page, &[Piece::Mark("last slot"), Piece::Mark(HEADS)]),
     }
 }
@@ -101,16 +81,16 @@ fn put_front(
 /// Where lines differ in a slot, or in the last one, what it printed in both runs, as a table.
 pub(crate) fn put_printed(
     page: &mut Vec<u8>,
-    machine: &Machine,
+    design: &Design,
     difference: &Difference,
     runs: &Runs,
 ) -> Result<(), NoMemory> {
-    let by_default = lines_of(machine, difference, &runs.parent.log);
-    let departed = lines_of(machine, difference, &runs.departed.log);
+    let by_default = lines_of(difference, &runs.parent.log);
+    let departed = lines_of(difference, &runs.departed.log);
     if are_same(by_default, departed) {
         return Ok(());
     }
-    put_front(page, machine, difference)?;
+    put_front(page, design, difference)?;
     put_cell(page, by_default)?;
     put_cell(page, departed)?;
     put(page, "</tr>\n</table></div>\n")

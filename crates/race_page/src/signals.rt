@@ -1,9 +1,7 @@
 // Which variables are shown of a race.
 
 use basis::NoMemory;
-use cause::Cause;
-use footprints::Thing;
-use race_groups::{Difference, Group};
+use race_findings::{Aspect, Finding, Touched};
 use run_pair::Runs;
 use std::alloc::Global;
 
@@ -32,19 +30,19 @@ impl Signals {
     }
 
     // The variable that the race is told of, if it is told of one.
-    fn put_first(&mut self, difference: &Difference) -> Result<(), NoMemory> {
-        match difference {
-            Difference::Values(race) => self.put(race.variable),
-            Difference::Lines(_) => Ok(()),
-            Difference::Ends(_) => Ok(()),
+    fn put_first(&mut self, aspect: &Aspect) -> Result<(), NoMemory> {
+        match aspect {
+            Aspect::Variable(number) => self.put(*number),
+            Aspect::Lines => Ok(()),
+            Aspect::Ends(_) => Ok(()),
         }
     }
 
-    // What both statements of the cause touch.
-    fn put_touched(&mut self, cause: &Cause) -> Result<(), NoMemory> {
-        for thing in cause.things.as_slice() {
-            if let Thing::Variable(variable) = thing {
-                self.put(*variable as usize)?;
+    // What both statements touch.
+    fn put_touched(&mut self, touched: &[Touched]) -> Result<(), NoMemory> {
+        for thing in touched {
+            if let Touched::Variable(number) = thing {
+                self.put(*number)?;
             }
         }
         Ok(())
@@ -54,7 +52,7 @@ impl Signals {
 /// The variable that the race is told of, what both statements touch, and then each variable that differs at one of the times.
 pub(crate) fn signals_of(
     alloc: Global,
-    group: &Group,
+    finding: &Finding,
     runs: &Runs,
     variables: usize,
 ) -> Result<Signals, NoMemory> {
@@ -62,9 +60,12 @@ pub(crate) fn signals_of(
         shown: Vec::new(alloc),
         left_out: 0,
     };
-    signals.put_first(&group.first)?;
-    if let Some(cause) = &group.cause {
-        signals.put_touched(cause)?;
+    signals.put_first(&finding.first.aspect)?;
+    if let Some(earliest) = &finding.earliest {
+        signals.put_first(&earliest.aspect)?;
+    }
+    if let Some(statements) = &finding.statements {
+        signals.put_touched(&statements.touched)?;
     }
     for variable in 0..variables {
         if runs.differs_somewhere(variable) {

@@ -4,9 +4,9 @@ use crate::files::Files;
 use crate::html::{Piece, put, put_all, put_cut};
 use crate::time::put_at;
 use basis::NoMemory;
-use cause::{Blamed, Cause};
+use race_findings::{RacingStatement, Statements};
 use std::alloc::Global;
-use vmachine::Machine;
+use vdesign::design::Design;
 use vsrc::Place;
 
 // How many lines before and after a statement are shown.
@@ -202,23 +202,23 @@ fn put_action(
 }
 
 // The statement, and where it drives a port connection or an `assign`, that one.
-fn put_blamed(
+fn put_racing(
     alloc: Global,
     blocks: &mut Vec<Block>,
     files: &Files<'_>,
-    blamed: &Blamed,
+    racing: &RacingStatement,
 ) -> Result<(), NoMemory> {
-    put_action(alloc, blocks, files, blamed.statement)?;
-    if blamed.place == blamed.statement {
+    put_action(alloc, blocks, files, racing.statement)?;
+    if racing.action == racing.statement {
         return Ok(());
     }
-    put_action(alloc, blocks, files, blamed.place)
+    put_action(alloc, blocks, files, racing.action)
 }
 
 /// The heading of both statements, with the time of the slot in which they race, if that is known.
 pub(crate) fn put_heading(
     page: &mut Vec<u8>,
-    machine: &Machine,
+    design: &Design,
     slot: Option<u64>,
 ) -> Result<(), NoMemory> {
     let words = "<h3>The two statements";
@@ -226,22 +226,22 @@ pub(crate) fn put_heading(
         None => put_all(page, &[Piece::Mark(words), Piece::Mark("</h3>\n")]),
         Some(time) => {
             put(page, words)?;
-            put_at(page, machine, ", in the slot at ", time, "</h3>\n")
+            put_at(page, design, ", in the slot at ", time, "</h3>\n")
         }
     }
 }
 
-/// Both statements of the cause in their files, in the order of the parent's run, each with the port connection or the `assign` that it
+/// Both statements in their files, in the order of the parent's run, each with the port connection or the `assign` that it
 /// drives and that races; what stands close together is one block.
 pub(crate) fn put_sources(
     alloc: Global,
     page: &mut Vec<u8>,
     files: &Files<'_>,
-    cause: &Cause,
+    statements: &Statements,
 ) -> Result<(), NoMemory> {
     let mut blocks = Vec::new(alloc);
-    put_blamed(alloc, &mut blocks, files, &cause.second)?;
-    put_blamed(alloc, &mut blocks, files, &cause.first)?;
+    put_racing(alloc, &mut blocks, files, &statements.first)?;
+    put_racing(alloc, &mut blocks, files, &statements.second)?;
     for block in &blocks {
         put_block(page, files, block)?;
     }

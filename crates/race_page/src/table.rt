@@ -6,8 +6,7 @@ use basis::NoMemory;
 use race_words::put_value;
 use run_pair::{Runs, Waves};
 use std::alloc::Global;
-use vdesign::design::Variable;
-use vmachine::Machine;
+use vdesign::design::{Design, Variable};
 
 // The value of the variable in a run, in a cell; nothing where the run has ended.
 fn put_cell(
@@ -65,18 +64,18 @@ pub(crate) fn put_table(
     alloc: Global,
     page: &mut Vec<u8>,
     runs: &Runs,
-    machine: &Machine,
+    design: &Design,
     shown: &[usize],
 ) -> Result<(), NoMemory> {
     put_at(
         page,
-        machine,
+        design,
         "<div class=\"wide\" tabindex=\"0\"><table>\n<caption>At the end of the slot at ",
         runs.time,
         "</caption>\n<tr><th scope=\"col\">variable</th><th scope=\"col\">default</th><th scope=\"col\">departed</th></tr>\n",
     )?;
     for number in shown {
-        if let Some(variable) = machine.design().variables.get(*number) {
+        if let Some(variable) = design.variables.get(*number) {
             put_row(alloc, page, runs, variable, *number)?;
         }
     }

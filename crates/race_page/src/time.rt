@@ -2,18 +2,18 @@
 
 use crate::html::put;
 use basis::NoMemory;
-use race_facts::put_time;
-use vmachine::Machine;
+use finding_text::put_time;
+use vdesign::design::Design;
 
 /// The time, between these marks.
 pub(crate) fn put_at(
     page: &mut Vec<u8>,
-    machine: &Machine,
+    design: &Design,
     before: &str,
     time: u64,
     after: &str,
 ) -> Result<(), NoMemory> {
     put(page, before)?;
-    put_time(page, machine, time)?;
+    put_time(page, design, time)?;
     put(page, after)
 }

@@ -2,50 +2,67 @@
 
 use crate::summary::{Findings, matched_at};
 use basis::NoMemory;
-use cause::Cause;
-use explore::{RankedReason, RankedStatus};
-use race_facts::difference::Subject;
-use race_facts::facts::Facts;
-use race_facts::json_side::{first_difference, next_difference};
-use race_facts::json_statement::{place_of, precision_of, statement_of};
+use finding_text::difference::Subject;
+use finding_text::json_side::{end_values, next_difference, whole_difference};
+use finding_text::json_statement::{place_of, precision_of, statement_in};
+use finding_text::statements::named_instances;
+use race_findings::{Aspect, CutBy, EndlessSlot, Finding, Name, Statements};
 use race_words::members::{Items, Members, document};
 use race_words::waivers::Waiver;
 use serde_json::Value;
 use std::alloc::Global;
 
-// The two statements, in the order of the parent's run, and when they race; or the one that ends the run.
-fn put_cause(alloc: Global, members: &mut Members, subject: Subject<'_>, cause: &Cause) {
-    let (design, sources) = (subject.machine.design(), subject.sources);
-    let things = cause.things.as_slice();
+// The two statements, in the order of the parent's run.
+fn put_both(alloc: Global, members: &mut Members, subject: Subject<'_>, both: &Statements) {
+    let (design, sources) = (subject.setting.design, subject.sources);
+    let touched = both.touched.as_slice();
+    let (one, other) = named_instances(design, sources, both);
     members.try_value(
         "first",
-        statement_of(alloc, design, sources, &cause.second, things),
+        statement_in(alloc, design, sources, &both.first, touched, one),
     );
     members.try_value(
         "second",
-        statement_of(alloc, design, sources, &cause.first, things),
+        statement_in(alloc, design, sources, &both.second, touched, other),
     );
-    if let Some(slot) = subject.facts.slot {
+}
+
+// The two statements, and when they race; or the one that ends the run.
+fn put_statements(alloc: Global, members: &mut Members, subject: Subject<'_>) {
+    let finding = subject.finding;
+    if let Some(statements) = &finding.statements {
+        put_both(alloc, members, subject, statements);
+    } else if let Some(action) = finding.ending {
+        let ending = place_of(alloc, subject.setting.design, subject.sources, action);
+        members.try_value("ending", ending.whole());
+    }
+    if let Some(slot) = finding.slot {
         members.number("slot", slot);
     }
 }
 
-// The two statements; or the one that ends the run.
-fn put_statements(alloc: Global, members: &mut Members, subject: Subject<'_>) {
-    if let Some(cause) = &subject.group.cause {
-        put_cause(alloc, members, subject, cause);
-    } else if let Some(action) = subject.facts.ending {
-        let ending = place_of(alloc, subject.machine.design(), subject.sources, action);
-        members.try_value("ending", ending.whole());
-    }
+// Whether it is of the lines that are told first.
+fn is_told_first(finding: &Finding, name: &Name) -> bool {
+    let is_of_lines = match &finding.first.aspect {
+        Aspect::Lines => name.variable.is_none(),
+        Aspect::Variable(_) => false,
+        Aspect::Ends(_) => false,
+    };
+    is_of_lines && name.time == finding.first.time
 }
 
-// The group's differences that are told.
+// The finding's differences that are told: what is told first and the earliest one whole, and then the next ones by name.
 fn differences(alloc: Global, subject: Subject<'_>, named: usize) -> Result<Value, NoMemory> {
+    let finding = subject.finding;
     let mut list = Items::new(alloc);
-    list.try_value(first_difference(alloc, subject));
-    for name in subject.group.next.iter().take(named) {
-        list.try_value(next_difference(alloc, subject.machine.design(), name));
+    list.try_value(whole_difference(alloc, subject, &finding.first));
+    if let Some(earliest) = &finding.earliest {
+        list.try_value(whole_difference(alloc, subject, earliest));
+    }
+    for name in finding.next.iter().take(named) {
+        if !is_told_first(finding, name) {
+            list.try_value(next_difference(alloc, subject.setting.design, name));
+        }
     }
     list.whole()
 }
@@ -59,78 +76,109 @@ fn put_waiver(members: &mut Members, waiver: Option<&Waiver<'_>>) {
 }
 
 // One cause, with what it explains.
-fn group_of(
+fn cause_of(
     alloc: Global,
     subject: Subject<'_>,
     named: usize,
     waiver: Option<&Waiver<'_>>,
 ) -> Result<Value, NoMemory> {
-    let (machine, group) = (subject.machine, subject.group);
+    let finding = subject.finding;
     let mut members = Members::new(alloc);
     put_waiver(&mut members, waiver);
-    members.number("time", group.first.time(machine));
+    members.number("time", finding.earliest_time());
+    members.flag("at_start", finding.is_at_start());
     put_statements(alloc, &mut members, subject);
     members.try_value("differences", differences(alloc, subject, named));
-    members.number("count", group.more.saturating_add(1));
-    members.number("last", group.last);
+    members.number("count", finding.more.saturating_add(1));
+    members.number("distinct", finding.distinct());
+    members.number("last", finding.last);
     members.whole()
 }
 
 // The causes.
-fn groups(alloc: Global, findings: &Findings<'_>) -> Result<Value, NoMemory> {
+fn causes(alloc: Global, findings: &Findings<'_>) -> Result<Value, NoMemory> {
     let mut list = Items::new(alloc);
-    for (place, group) in findings.races.groups.iter().enumerate() {
-        let facts = Facts::new(alloc, findings.machine, group)?;
-        let subject = findings.subject(group, &facts);
+    for (place, finding) in findings.races.iter().enumerate() {
+        let subject = findings.subject(finding);
         let waiver = findings.waiver(place);
-        list.value(group_of(alloc, subject, findings.summary.named_count(), waiver)?);
+        list.value(cause_of(alloc, subject, findings.summary.named_count(), waiver)?);
     }
     list.whole()
 }
 
 // By what the search was cut.
-fn cut_by(reason: RankedReason, stopped_by: &'static [u8]) -> &'static [u8] {
-    match reason {
-        RankedReason::Memory(_) => b"memory",
-        RankedReason::Entries => b"entries",
-        RankedReason::Steps => b"--steps",
-        RankedReason::Stopped => stopped_by,
+fn cut_words(cut: CutBy, stopped_by: &'static [u8]) -> &'static [u8] {
+    match cut {
+        CutBy::Memory => b"memory",
+        CutBy::Entries => b"entries",
+        CutBy::Steps => b"--steps",
+        CutBy::Stopped => stopped_by,
     }
 }
 
 // Whether the search went to its end, or by what it was cut.
-fn put_status(members: &mut Members, status: RankedStatus, stopped_by: &'static [u8]) {
-    match status {
-        RankedStatus::Exhausted => members.text("status", b"exhausted"),
-        RankedStatus::Cut(reason) => {
+fn put_status(members: &mut Members, cut: Option<CutBy>, stopped_by: &'static [u8]) {
+    match cut {
+        None => members.text("status", b"exhausted"),
+        Some(cut) => {
             members.text("status", b"cut");
-            members.text("cut_by", cut_by(reason, stopped_by));
+            members.text("cut_by", cut_words(cut, stopped_by));
         }
     }
 }
 
 // What was looked at.
 fn put_seen(members: &mut Members, findings: &Findings<'_>) {
-    let (races, summary) = (findings.races, findings.summary);
-    put_status(members, races.search.status, summary.stopped_by);
-    members.value("closed", Value::from(races.search.closed));
+    let (reach, summary) = (findings.reach, findings.summary);
+    put_status(members, reach.cut, summary.stopped_by);
+    members.value("closed", Value::from(reach.closed));
     members.number("departures", u64::from(summary.departures));
     members.number("states", summary.states);
-    members.flag("cut_runs", races.cut_runs);
-    if races.cut_runs {
-        members.number("until", findings.machine.until());
+    members.flag("cut_runs", reach.cut_runs);
+    if reach.cut_runs {
+        members.number("until", findings.setting.until);
     }
     members.number("from", summary.from);
-    members.number("ignored", races.ignored);
+    members.number("ignored", reach.ignored);
+}
+
+// The slot that the default run never leaves: its time, and where the statement stands.
+fn endless_of(
+    alloc: Global,
+    findings: &Findings<'_>,
+    slot: EndlessSlot,
+) -> Result<Value, NoMemory> {
+    let design = findings.setting.design;
+    let mut members = match slot.action {
+        None => Members::new(alloc),
+        Some(action) => place_of(alloc, design, findings.sources, action),
+    };
+    members.number("time", slot.time);
+    members.whole()
+}
+
+// How runs end: that none does, or in which values alone.
+fn put_ends(alloc: Global, members: &mut Members, findings: &Findings<'_>) {
+    if let Some(slot) = findings.reach.endless {
+        members.try_value("endless", endless_of(alloc, findings, slot));
+    }
+    if let Some(difference) = findings.cut_values {
+        members.try_value(
+            "end_values",
+            end_values(alloc, findings.setting, difference),
+        );
+    }
 }
 
 /// What was found of a top module.
 pub fn top_of(alloc: Global, findings: &Findings<'_>) -> Result<Value, NoMemory> {
+    let design = findings.setting.design;
     let mut members = Members::new(alloc);
-    members.text("top", &findings.machine.design().top);
-    members.made_text("precision", precision_of(alloc, findings.machine));
+    members.text("top", &design.top);
+    members.made_text("precision", precision_of(alloc, design));
     put_seen(&mut members, findings);
-    members.try_value("causes", groups(alloc, findings));
+    put_ends(alloc, &mut members, findings);
+    members.try_value("causes", causes(alloc, findings));
     members.whole()
 }
 

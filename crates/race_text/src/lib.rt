@@ -1,20 +1,19 @@
 // What `vrace races` tells people (docs/RACES.md, "The races of a testbench") and programs (docs/FORMATS.md, "Races as JSON", "Races as
-// SARIF"). In go the races that a search found, by their causes, the files that they are of, and waivers; out comes the text, or a document.
+// SARIF"). In go the findings of a search (`race_findings`), the files that they are of, and waivers; out comes the text, or a document.
 // No law is claimed: how it is told the cases in tests/cases compare.
 #![tactic(auto)]
 
+mod at_end;
 mod command;
 mod json;
 mod sarif;
 mod sarif_place;
 mod summary;
 mod tops;
-mod waived;
 mod waiver_file;
 mod whole;
 
-pub use summary::{Findings, NAMED, SearchSummary};
+pub use summary::{Findings, KEPT, SearchSummary};
 pub use tops::{Format, Tops};
-pub use waived::Waived;
 pub use waiver_file::WaiverLines;
-pub use whole::{groups_texts, summary_text};
+pub use whole::{races_texts, summary_text};

@@ -1,13 +1,13 @@
 // A SARIF 2.1.0 log, for code hosts (docs/FORMATS.md, "Races as SARIF").
 
+use crate::at_end::put_ends;
 use crate::sarif_place::{Locations, fingerprint, location_of_end, locations_of, put_deeds};
 use crate::summary::{Findings, matched_at, put_matched, put_seen, put_top};
 use basis::NoMemory;
-use cause::Cause;
-use explore::RankedStatus;
-use race_facts::difference::{Subject, put_difference, rows_of};
-use race_facts::facts::Facts;
-use race_facts::time::put_time;
+use finding_text::difference::{Subject, has_others, put_difference, put_others, rows_of};
+use finding_text::statements::named_instances;
+use finding_text::time::put_time;
+use race_findings::Statements;
 use race_words::members::{Items, Members, document};
 use race_words::pieces::{Piece, put, put_all};
 use race_words::waivers::Waiver;
@@ -80,58 +80,61 @@ fn tool(alloc: Global, version: &str) -> Result<Value, NoMemory> {
 }
 
 // What the two statements do: `; late.v:3 writes tb.a, late.v:4 reads tb.a`, and when, if it shows later: `, both at 0`.
-fn put_cause(text: &mut Vec<u8>, subject: Subject<'_>, cause: &Cause) -> Result<(), NoMemory> {
+fn put_both(
+    text: &mut Vec<u8>,
+    subject: Subject<'_>,
+    statements: &Statements,
+) -> Result<(), NoMemory> {
+    let touched = statements.touched.as_slice();
+    let (one, other) = named_instances(subject.setting.design, subject.sources, statements);
     put(text, b"; ")?;
-    put_deeds(text, subject, cause, &cause.second)?;
+    put_deeds(text, subject, &statements.first, touched, one)?;
     put(text, b", ")?;
-    put_deeds(text, subject, cause, &cause.first)?;
-    match subject.facts.slot {
-        Some(slot) if slot != subject.group.first.time(subject.machine) => {
+    put_deeds(text, subject, &statements.second, touched, other)?;
+    match subject.finding.slot {
+        Some(slot) if slot != subject.finding.first.time => {
             put(text, b", both at ")?;
-            put_time(text, subject.machine, slot)
+            put_time(text, subject.setting.design, slot)
         }
         _ => Ok(()),
     }
 }
 
-// What is said of a group: what differs, what the two statements do, and what follows.
-fn group_text(alloc: Global, subject: Subject<'_>) -> Result<Vec<u8>, NoMemory> {
-    let group = subject.group;
+// What is said of a finding: what differs, what the two statements do, and what follows.
+fn finding_words(alloc: Global, subject: Subject<'_>) -> Result<Vec<u8>, NoMemory> {
+    let finding = subject.finding;
     let mut text = Vec::new(alloc);
     let rows = rows_of(alloc, subject)?;
     put_difference(&mut text, subject, &rows)?;
-    if let Some(cause) = &group.cause {
-        put_cause(&mut text, subject, cause)?;
+    if let Some(statements) = &finding.statements {
+        put_both(&mut text, subject, statements)?;
     }
-    if group.more > 0 {
-        let more = Piece::Count(group.more, b"more difference");
-        put_all(
-            &mut text,
-            &[Piece::Bytes(b"; "), more, Piece::Bytes(b", up to ")],
-        )?;
-        put_time(&mut text, subject.machine, group.last)?;
+    if has_others(finding) {
+        put(&mut text, b"; ")?;
+        put_others(&mut text, subject)?;
     }
     Ok(text)
 }
 
-// What the group is known by from one run to the next.
-fn prints(alloc: Global, subject: Subject<'_>, cause: &Cause) -> Result<Value, NoMemory> {
+// What the finding is known by from one run to the next.
+fn prints(alloc: Global, subject: Subject<'_>, statements: &Statements) -> Result<Value, NoMemory> {
     let mut members = Members::new(alloc);
-    members.made_text("causeStatements/v1", fingerprint(alloc, subject, cause));
+    let print = fingerprint(alloc, subject, statements);
+    members.made_text("causeStatements/v1", print);
     members.whole()
 }
 
-// The group's places, and what it is known by from one run to the next; where no two statements are known, the place of the one that ends
+// The finding's places, and what it is known by from one run to the next; where no two statements are known, the place of the one that ends
 // the run, or the beginning of the first file.
 fn put_places(alloc: Global, members: &mut Members, subject: Subject<'_>) -> Result<(), NoMemory> {
-    let Some(cause) = &subject.group.cause else {
+    let Some(statements) = &subject.finding.statements else {
         members.try_value("locations", location_of_end(alloc, subject));
         return Ok(());
     };
-    let Locations { first, others } = locations_of(alloc, subject, cause)?;
+    let Locations { first, others } = locations_of(alloc, subject, statements)?;
     members.try_value("locations", first.whole());
     members.try_value("relatedLocations", others.whole());
-    members.try_value("partialFingerprints", prints(alloc, subject, cause));
+    members.try_value("partialFingerprints", prints(alloc, subject, statements));
     Ok(())
 }
 
@@ -153,9 +156,9 @@ fn suppressions(alloc: Global, waiver: Option<&Waiver<'_>>) -> Result<Value, NoM
     list.whole()
 }
 
-// What is said of a group, as a message.
-fn group_message(alloc: Global, subject: Subject<'_>) -> Result<Value, NoMemory> {
-    message(alloc, &group_text(alloc, subject)?)
+// What is said of a finding, as a message.
+fn finding_message(alloc: Global, subject: Subject<'_>) -> Result<Value, NoMemory> {
+    message(alloc, &finding_words(alloc, subject)?)
 }
 
 // One result.
@@ -168,7 +171,7 @@ fn result_of(
     members.text("ruleId", RULE);
     members.number("ruleIndex", 0);
     members.text("level", b"warning");
-    members.try_value("message", group_message(alloc, subject));
+    members.try_value("message", finding_message(alloc, subject));
     put_places(alloc, &mut members, subject)?;
     members.try_value("suppressions", suppressions(alloc, waiver));
     members.whole()
@@ -180,9 +183,8 @@ pub fn push_results(
     list: &mut Items,
     findings: &Findings<'_>,
 ) -> Result<(), NoMemory> {
-    for (place, group) in findings.races.groups.iter().enumerate() {
-        let facts = Facts::new(alloc, findings.machine, group)?;
-        let subject = findings.subject(group, &facts);
+    for (place, finding) in findings.races.iter().enumerate() {
+        let subject = findings.subject(finding);
         list.value(result_of(alloc, subject, findings.waiver(place))?);
     }
     Ok(())
@@ -217,11 +219,28 @@ fn warning(alloc: Global, findings: &Findings<'_>, is_headed: bool) -> Result<Va
     notification(alloc, b"warning", text.trim_ascii_start())
 }
 
-/// Puts a notification where something of a top module was left unseen.
+// A notification of how runs end, behind the name of the top module where several are told: that none does, or in which values alone.
+fn note_of_ends(
+    alloc: Global,
+    findings: &Findings<'_>,
+    is_headed: bool,
+) -> Result<Value, NoMemory> {
+    let mut text = Vec::new(alloc);
+    if is_headed {
+        put_top(&mut text, findings)?;
+        put(&mut text, b" ")?;
+    }
+    put_ends(&mut text, findings)?;
+    notification(alloc, b"note", text.trim_ascii_end())
+}
+
+/// Puts a notification where something of a top module was left unseen, and one where no run ends, or ends differ in values alone.
 pub fn push_unseen(alloc: Global, list: &mut Items, findings: &Findings<'_>, is_headed: bool) {
-    let races = findings.races;
-    if races.cut_runs || races.search.status != RankedStatus::Exhausted {
+    if findings.reach.is_cut() {
         list.try_value(warning(alloc, findings, is_headed));
+    }
+    if findings.reach.endless.is_some() || findings.cut_values.is_some() {
+        list.try_value(note_of_ends(alloc, findings, is_headed));
     }
 }
 

@@ -2,9 +2,9 @@
 
 use crate::sarif::message;
 use basis::NoMemory;
-use cause::{Blamed, Cause};
-use race_facts::difference::Subject;
-use race_facts::statements::{SOURCE, put_verbs};
+use finding_text::difference::Subject;
+use finding_text::statements::{SOURCE, put_instance, put_verbs};
+use race_findings::{RacingStatement, Statements, Touched};
 use race_words::members::{Items, Members};
 use race_words::pieces::{Piece, put, put_all};
 use serde_json::Value;
@@ -129,7 +129,7 @@ fn place_of_end(alloc: Global, subject: Subject<'_>) -> Result<Value, NoMemory> 
         line: 1,
         column: 0,
     };
-    match place_of(subject, subject.facts.ending) {
+    match place_of(subject, subject.finding.ending) {
         None => location(
             alloc,
             subject,
@@ -153,12 +153,11 @@ pub fn location_of_end(alloc: Global, subject: Subject<'_>) -> Result<Value, NoM
 fn verbs(
     alloc: Global,
     subject: Subject<'_>,
-    cause: &Cause,
-    blamed: &Blamed,
+    racing: &RacingStatement,
+    touched: &[Touched],
 ) -> Result<Vec<u8>, NoMemory> {
     let mut verbs = Vec::new(alloc);
-    let things = cause.things.as_slice();
-    put_verbs(&mut verbs, subject.machine.design(), blamed, things)?;
+    put_verbs(&mut verbs, subject.setting.design, racing, touched)?;
     Ok(verbs)
 }
 
@@ -168,18 +167,18 @@ fn push_statement(
     statements: &mut Items,
     connections: &mut Items,
     subject: Subject<'_>,
-    cause: &Cause,
-    blamed: &Blamed,
+    racing: &RacingStatement,
+    touched: &[Touched],
     number: u64,
 ) -> Result<(), NoMemory> {
-    let verbs = verbs(alloc, subject, cause, blamed)?;
-    let (statement, place) = (blamed.statement, blamed.place);
-    if statement == place {
+    let verbs = verbs(alloc, subject, racing, touched)?;
+    let (statement, action) = (racing.statement, racing.action);
+    if statement == action {
         push_location(alloc, statements, subject, statement, number, &verbs);
     } else {
         let (drives, next) = (b"drives a connection", number.saturating_add(1));
         push_location(alloc, statements, subject, statement, number, drives);
-        push_location(alloc, connections, subject, place, next, &verbs);
+        push_location(alloc, connections, subject, action, next, &verbs);
     }
     Ok(())
 }
@@ -188,13 +187,14 @@ fn push_statement(
 pub fn locations_of(
     alloc: Global,
     subject: Subject<'_>,
-    cause: &Cause,
+    statements: &Statements,
 ) -> Result<Locations, NoMemory> {
     let (mut first, mut others) = (Items::new(alloc), Items::new(alloc));
     let mut ways = Items::new(alloc);
-    let (earlier, later) = (&cause.second, &cause.first);
-    push_statement(alloc, &mut first, &mut ways, subject, cause, earlier, 1)?;
-    push_statement(alloc, &mut others, &mut ways, subject, cause, later, 3)?;
+    let touched = statements.touched.as_slice();
+    let (one, other) = (&statements.first, &statements.second);
+    push_statement(alloc, &mut first, &mut ways, subject, one, touched, 1)?;
+    push_statement(alloc, &mut others, &mut ways, subject, other, touched, 3)?;
     others.append(ways);
     Ok(Locations { first, others })
 }
@@ -214,31 +214,33 @@ fn put_line(text: &mut Vec<u8>, subject: Subject<'_>, action: usize) -> Result<(
     }
 }
 
-/// What the statement does: `late.v:3 writes tb.a`; by a connection `late.v:3 through late.v:5 writes tb.u.a`.
+/// What the statement does: `late.v:3 writes tb.a`; by a connection `late.v:3 through late.v:5 writes tb.u.a`; with its instance, where that
+/// is to be named, `late.v:3 in tb.u1 writes tb.u1.a`.
 pub fn put_deeds(
     text: &mut Vec<u8>,
     subject: Subject<'_>,
-    cause: &Cause,
-    blamed: &Blamed,
+    racing: &RacingStatement,
+    touched: &[Touched],
+    instance: Option<&[u8]>,
 ) -> Result<(), NoMemory> {
-    put_line(text, subject, blamed.statement)?;
-    if blamed.statement != blamed.place {
+    put_line(text, subject, racing.statement)?;
+    put_instance(text, instance)?;
+    if racing.statement != racing.action {
         put(text, b" through ")?;
-        put_line(text, subject, blamed.place)?;
+        put_line(text, subject, racing.action)?;
     }
     put(text, b" ")?;
-    let things = cause.things.as_slice();
-    put_verbs(text, subject.machine.design(), blamed, things)
+    put_verbs(text, subject.setting.design, racing, touched)
 }
 
 // What the statement says and does, with its file, but not with its line, which moves with the text round it.
 fn put_known_by(
     text: &mut Vec<u8>,
     subject: Subject<'_>,
-    cause: &Cause,
-    blamed: &Blamed,
+    racing: &RacingStatement,
+    touched: &[Touched],
 ) -> Result<(), NoMemory> {
-    if let Some(place) = subject.sources.place(blamed.statement) {
+    if let Some(place) = subject.sources.place(racing.statement) {
         put_all(
             text,
             &[
@@ -249,19 +251,19 @@ fn put_known_by(
             ],
         )?;
     }
-    let things = cause.things.as_slice();
-    put_verbs(text, subject.machine.design(), blamed, things)
+    put_verbs(text, subject.setting.design, racing, touched)
 }
 
 /// What a cause is known by from one run to the next: its two statements, in the order of their texts.
 pub fn fingerprint(
     alloc: Global,
     subject: Subject<'_>,
-    cause: &Cause,
+    statements: &Statements,
 ) -> Result<Vec<u8>, NoMemory> {
+    let touched = statements.touched.as_slice();
     let (mut one, mut other) = (Vec::new(alloc), Vec::new(alloc));
-    put_known_by(&mut one, subject, cause, &cause.second)?;
-    put_known_by(&mut other, subject, cause, &cause.first)?;
+    put_known_by(&mut one, subject, &statements.first, touched)?;
+    put_known_by(&mut other, subject, &statements.second, touched)?;
     let (mut text, last) = if one.as_slice() <= other.as_slice() {
         (one, other)
     } else {

@@ -1,19 +1,21 @@
 // The last lines: how many races there are, what wasn't looked at, and what waivers matched.
 
-use crate::waived::Waived;
+use crate::at_end::put_ends;
 use basis::NoMemory;
-use explore::{RankedReason, RankedStatus};
-use race_facts::difference::Subject;
-use race_facts::facts::Facts;
-use race_facts::place::Sources;
-use race_facts::time::put_time;
-use race_groups::{Group, Races};
+use finding_text::difference::Subject;
+use finding_text::place::Sources;
+use finding_text::time::put_time;
+use race_findings::{CutBy, Difference, Finding, Reach, Setting};
+use race_waivers::Waived;
 use race_words::pieces::{Piece, put, put_all, put_count};
 use race_words::waivers::Waiver;
-use vmachine::Machine;
+use vdesign::design::Design;
 
 /// How many of the differences that follow are named, unless all are.
 pub const NAMED: usize = 3;
+
+/// How many of the differences that follow are kept by name, so that different variables can be counted, unless all are.
+pub const KEPT: usize = 20_000;
 
 /// What is told beside the races: how many departures a run may have, and how many steps; whether the top module was named in the call; the
 /// time before which differences are passed over; whether all that follow are named; how many states were visited, in how many
@@ -37,67 +39,85 @@ impl SearchSummary {
     }
 }
 
-/// What is told of a top module: the races of its machine, the files that they are of, what is told beside them, and which of them are
-/// waived.
+/// What is told of a top module: of which runs, the files that they are of, the races, the ends that differ in the values alone that a cut slot
+/// leaves, how far the search came, what is told beside them, and which of the races are waived.
 #[derive(Clone, Copy)]
 pub struct Findings<'a> {
-    pub machine: &'a Machine,
+    pub setting: Setting<'a>,
     pub sources: &'a Sources<'a>,
-    pub races: &'a Races,
+    pub races: &'a [Finding],
+    pub cut_values: Option<&'a Difference>,
+    pub reach: &'a Reach,
     pub summary: &'a SearchSummary,
     pub waivers: &'a [Waiver<'a>],
     pub waived: &'a Waived,
 }
 
 impl<'a> Findings<'a> {
-    /// The waiver that the group of this place is waived by.
-    pub fn waiver(&self, group: usize) -> Option<&'a Waiver<'a>> {
-        self.waivers.get(self.waived.by(group)?)
+    /// The waiver that the race of this place is waived by.
+    pub fn waiver(&self, race: usize) -> Option<&'a Waiver<'a>> {
+        self.waivers.get(self.waived.by(race)?)
     }
 
-    /// A group, of which this is so, as what is told of.
-    pub fn subject(&self, group: &'a Group, facts: &'a Facts) -> Subject<'a> {
+    /// A finding, as what is told of.
+    pub fn subject(&self, finding: &'a Finding) -> Subject<'a> {
         Subject {
-            machine: self.machine,
+            setting: self.setting,
             sources: self.sources,
-            group,
-            facts,
+            finding,
         }
     }
 
     // Whether something was left unseen, or passed over.
     fn is_partial(&self) -> bool {
-        let races = self.races;
-        let is_cut = races.cut_runs || races.search.status != RankedStatus::Exhausted;
-        is_cut || races.ignored > 0
+        self.reach.is_cut() || self.reach.ignored > 0
     }
 }
 
 /// `top tb:`
 pub fn put_top(text: &mut Vec<u8>, findings: &Findings<'_>) -> Result<(), NoMemory> {
-    let top = &findings.machine.design().top;
+    let design = findings.setting.design;
     put_all(
         text,
-        &[Piece::Bytes(b"top "), Piece::Bytes(top), Piece::Bytes(b":")],
+        &[
+            Piece::Bytes(b"top "),
+            Piece::Bytes(&design.top),
+            Piece::Bytes(b":"),
+        ],
     )
 }
 
-// How many differences there are in all.
-fn difference_count(groups: &[Group]) -> u64 {
+// How many different variables, and lines of slots, differ in all.
+fn difference_count(races: &[Finding]) -> u64 {
     let mut count = 0u64;
-    for group in groups {
-        count = count.saturating_add(group.more).saturating_add(1);
+    for finding in races {
+        count = count.saturating_add(finding.distinct());
     }
     count
 }
 
+// Whether each race has all names of what differs.
+fn are_whole(races: &[Finding]) -> bool {
+    for finding in races {
+        if !finding.is_whole() {
+            return false;
+        }
+    }
+    true
+}
+
 // `1 race.`; `3 races (12 differences), 1 waived.`
-fn put_counts(text: &mut Vec<u8>, groups: &[Group], waived: u64) -> Result<(), NoMemory> {
-    let (races, differences) = (groups.len() as u64, difference_count(groups));
-    put_count(text, races, b"race")?;
-    if differences > races {
+fn put_counts(text: &mut Vec<u8>, races: &[Finding], waived: u64) -> Result<(), NoMemory> {
+    let (count, differences) = (races.len() as u64, difference_count(races));
+    put_count(text, count, b"race")?;
+    if differences > count {
+        let opening: &[u8] = if are_whole(races) {
+            b" ("
+        } else {
+            b" (at least "
+        };
         let count = Piece::Count(differences, b"difference");
-        put_all(text, &[Piece::Bytes(b" ("), count, Piece::Bytes(b")")])?;
+        put_all(text, &[Piece::Bytes(opening), count, Piece::Bytes(b")")])?;
     }
     if waived > 0 {
         put_all(
@@ -114,9 +134,9 @@ fn put_counts(text: &mut Vec<u8>, groups: &[Group], waived: u64) -> Result<(), N
 
 // How many races there are; where there is none, and something wasn't looked at, so much is said.
 fn put_found(text: &mut Vec<u8>, findings: &Findings<'_>) -> Result<(), NoMemory> {
-    let groups = &findings.races.groups;
-    if !groups.is_empty() {
-        return put_counts(text, groups, findings.waived.waived_count());
+    let races = findings.races;
+    if !races.is_empty() {
+        return put_counts(text, races, findings.waived.waived_count());
     }
     if findings.is_partial() {
         put(text, b"No race was found in what was looked at.")
@@ -129,57 +149,63 @@ fn put_found(text: &mut Vec<u8>, findings: &Findings<'_>) -> Result<(), NoMemory
 const STEPS: &[u8] = b"as a run takes more steps than --steps (a clock without end needs --until)";
 
 // What cut the search.
-fn put_reason(
-    text: &mut Vec<u8>,
-    reason: RankedReason,
-    stopped_by: &'static [u8],
-) -> Result<(), NoMemory> {
-    match reason {
-        RankedReason::Memory(_) => put(
+fn put_reason(text: &mut Vec<u8>, cut: CutBy, stopped_by: &'static [u8]) -> Result<(), NoMemory> {
+    match cut {
+        CutBy::Memory => put(
             text,
             b"for want of memory (a clock without end needs --until)",
         ),
-        RankedReason::Entries => put(text, b"by the number of its states"),
-        RankedReason::Steps => put(text, STEPS),
-        RankedReason::Stopped => put_all(text, &[Piece::Bytes(b"by "), Piece::Bytes(stopped_by)]),
+        CutBy::Entries => put(text, b"by the number of its states"),
+        CutBy::Steps => put(text, STEPS),
+        CutBy::Stopped => put_all(text, &[Piece::Bytes(b"by "), Piece::Bytes(stopped_by)]),
     }
 }
 
 // How far the search came.
-fn put_closed(text: &mut Vec<u8>, machine: &Machine, closed: Option<u64>) -> Result<(), NoMemory> {
+fn put_closed(text: &mut Vec<u8>, design: &Design, closed: Option<u64>) -> Result<(), NoMemory> {
     match closed {
         None => put(text, b": nothing was looked at whole"),
         Some(time) => {
             put(text, b": everything up to ")?;
-            put_time(text, machine, time)?;
+            put_time(text, design, time)?;
             put(text, b" was looked at")
+        }
+    }
+}
+
+// How far it was looked where no run ends.
+fn put_last_slot(text: &mut Vec<u8>, design: &Design, closed: Option<u64>) -> Result<(), NoMemory> {
+    match closed {
+        None => put(text, b"; no slot ends"),
+        Some(time) => {
+            put(text, b" up to ")?;
+            put_time(text, design, time)?;
+            put(text, b", where the last slot ends")
         }
     }
 }
 
 /// What was looked at.
 pub fn put_seen(text: &mut Vec<u8>, findings: &Findings<'_>) -> Result<(), NoMemory> {
-    let Findings {
-        machine,
-        races,
-        summary,
-        ..
-    } = *findings;
-    if let RankedStatus::Cut(reason) = races.search.status {
+    let (setting, reach) = (findings.setting, findings.reach);
+    if let Some(cut) = reach.cut {
         put(text, b" The search was cut ")?;
-        put_reason(text, reason, summary.stopped_by)?;
-        return put_closed(text, machine, races.search.closed);
+        put_reason(text, cut, findings.summary.stopped_by)?;
+        return put_closed(text, setting.design, reach.closed);
     }
-    let departures = Piece::Count(u64::from(summary.departures), b"departure");
+    let departures = Piece::Count(u64::from(findings.summary.departures), b"departure");
     put_all(
         text,
         &[Piece::Bytes(b" Nothing was missed within "), departures],
     )?;
-    if !races.cut_runs {
+    if reach.endless.is_some() {
+        return put_last_slot(text, setting.design, reach.closed);
+    }
+    if !reach.cut_runs {
         return put(text, b", up to the end of all runs");
     }
     put(text, b" up to ")?;
-    put_time(text, machine, machine.until())?;
+    put_time(text, setting.design, setting.until)?;
     put(
         text,
         b", where --until cut runs: what comes later was not seen",
@@ -245,7 +271,7 @@ pub fn put_waivers(
 
 // How many differences were passed over, if any were.
 fn put_ignored(text: &mut Vec<u8>, findings: &Findings<'_>) -> Result<(), NoMemory> {
-    let ignored = findings.races.ignored;
+    let ignored = findings.reach.ignored;
     if ignored == 0 {
         return Ok(());
     }
@@ -256,13 +282,14 @@ fn put_ignored(text: &mut Vec<u8>, findings: &Findings<'_>) -> Result<(), NoMemo
             Piece::Bytes(b" before "),
         ],
     )?;
-    put_time(text, findings.machine, findings.summary.from)?;
+    put_time(text, findings.setting.design, findings.summary.from)?;
     put(text, b" passed over.\n")
 }
 
 /// What was passed over, how many races there are, and what wasn't looked at.
 pub fn put_summary(text: &mut Vec<u8>, findings: &Findings<'_>) -> Result<(), NoMemory> {
     put_ignored(text, findings)?;
+    put_ends(text, findings)?;
     put_found(text, findings)?;
     put_seen(text, findings)?;
     put_cost(text, findings.summary)

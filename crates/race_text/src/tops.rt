@@ -3,12 +3,13 @@
 use crate::json::{json_of, top_of};
 use crate::sarif::{push_results, push_unmatched, push_unseen, sarif_of};
 use crate::summary::{Findings, matched_at, put_top, put_waivers};
-use crate::waived::Waived;
 use crate::whole::put_races;
 use basis::NoMemory;
+use race_waivers::Waived;
 use race_words::members::Items;
 use race_words::pieces::put;
 use race_words::waivers::Waiver;
+use shown_text::shown_text;
 use std::alloc::Global;
 
 /// How races are written.
@@ -113,7 +114,7 @@ impl<'w> Tops<'w> {
         match format {
             Format::Text => {
                 put_waivers(&mut text, waivers, &matched)?;
-                Ok(text)
+                shown_text(alloc, &text)
             }
             Format::Json => json_of(alloc, values, waivers, &matched),
             Format::Sarif => {

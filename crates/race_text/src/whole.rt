@@ -3,53 +3,47 @@
 use crate::command::behind_log;
 use crate::summary::{Findings, NAMED, SearchSummary, put_summary};
 use basis::NoMemory;
-use race_facts::apart::Foremost;
-use race_facts::difference::{
-    Row, Subject, cause_words, end_in, name_of, put_difference, put_name, put_sides, rows_of,
+use finding_text::difference::{
+    Row, Subject, cause_words, has_others, put_difference, put_name, put_others, put_sides, rows_of,
 };
-use race_facts::facts::Facts;
-use race_facts::statements::{put_ending, put_statements};
-use race_facts::time::put_time;
-use race_groups::{Difference, Group, Name};
+use finding_text::name::name_of;
+use finding_text::start::{START, START_CURE};
+use finding_text::statements::{put_ending, put_statements};
+use finding_text::time::put_time;
+use race_findings::{Finding, Foremost, Name, is_first_at_start};
 use race_words::pieces::{Piece, put, put_all};
 use race_words::waivers::Waiver;
 use std::alloc::Global;
 use vdesign::design::Design;
-use vmachine::Machine;
 
 // The two statements; or the one that ends the run; or that they weren't found.
-fn put_cause(alloc: Global, text: &mut Vec<u8>, subject: Subject<'_>) -> Result<(), NoMemory> {
-    let Subject {
-        machine,
-        sources,
-        group,
-        facts,
-    } = subject;
-    match (&group.cause, facts.ending) {
-        (Some(cause), _) => put_statements(alloc, text, machine.design(), sources, cause),
-        (None, Some(action)) => put_ending(alloc, text, machine.design(), sources, action),
+fn put_both(alloc: Global, text: &mut Vec<u8>, subject: Subject<'_>) -> Result<(), NoMemory> {
+    let (design, sources, finding) = (subject.setting.design, subject.sources, subject.finding);
+    match (&finding.statements, finding.ending) {
+        (Some(statements), _) => put_statements(alloc, text, design, sources, statements),
+        (None, Some(action)) => put_ending(alloc, text, design, sources, action),
         (None, None) => put(text, b"    which statements race was not found\n"),
     }
 }
 
 // When the two statements race, if it shows later.
 fn put_slot(text: &mut Vec<u8>, subject: Subject<'_>) -> Result<(), NoMemory> {
-    let Some(slot) = subject.facts.slot else {
+    let Some(slot) = subject.finding.slot else {
         return Ok(());
     };
-    if slot != subject.group.first.time(subject.machine) {
+    if slot != subject.finding.first.time {
         put(text, b"    both at ")?;
-        put_time(text, subject.machine, slot)?;
+        put_time(text, subject.setting.design, slot)?;
         put(text, b"\n")?;
     }
     Ok(())
 }
 
 // The first names, in one line.
-fn put_names(text: &mut Vec<u8>, machine: &Machine, names: &[Name]) -> Result<(), NoMemory> {
+fn put_names(text: &mut Vec<u8>, design: &Design, names: &[Name]) -> Result<(), NoMemory> {
     for (place, name) in names.iter().take(NAMED).enumerate() {
         put(text, joint(place))?;
-        put_name(text, machine, name)?;
+        put_name(text, design, name)?;
     }
     Ok(())
 }
@@ -60,36 +54,28 @@ fn joint(place: usize) -> &'static [u8] {
 }
 
 // All names, a line each.
-fn put_all_names(text: &mut Vec<u8>, machine: &Machine, names: &[Name]) -> Result<(), NoMemory> {
+fn put_all_names(text: &mut Vec<u8>, design: &Design, names: &[Name]) -> Result<(), NoMemory> {
     for name in names {
         put(text, b"        ")?;
-        put_name(text, machine, name)?;
+        put_name(text, design, name)?;
         put(text, b"\n")?;
     }
     Ok(())
 }
 
 // What follows from the same two statements.
-fn put_more(
-    text: &mut Vec<u8>,
-    machine: &Machine,
-    group: &Group,
-    all: bool,
-) -> Result<(), NoMemory> {
-    if group.more == 0 {
+fn put_more(text: &mut Vec<u8>, subject: Subject<'_>, all: bool) -> Result<(), NoMemory> {
+    let (design, finding) = (subject.setting.design, subject.finding);
+    if !has_others(finding) {
         return Ok(());
     }
-    let more = Piece::Count(group.more, b"more difference");
-    put_all(
-        text,
-        &[Piece::Bytes(b"    and "), more, Piece::Bytes(b", up to ")],
-    )?;
-    put_time(text, machine, group.last)?;
+    put(text, b"    and ")?;
+    put_others(text, subject)?;
     if all {
         put(text, b"\n")?;
-        return put_all_names(text, machine, &group.next);
+        return put_all_names(text, design, &finding.others);
     }
-    put_names(text, machine, &group.next)?;
+    put_names(text, design, &finding.others)?;
     put(text, b"\n")
 }
 
@@ -113,8 +99,12 @@ fn put_variables(
 }
 
 // Which variables differ where runs end, beside what is told first.
-fn put_others(text: &mut Vec<u8>, subject: Subject<'_>, most: usize) -> Result<(), NoMemory> {
-    let Some(apart) = &subject.facts.apart else {
+fn put_end_variables(
+    text: &mut Vec<u8>,
+    subject: Subject<'_>,
+    most: usize,
+) -> Result<(), NoMemory> {
+    let Some(apart) = subject.finding.first.apart() else {
         return Ok(());
     };
     let others = apart.others();
@@ -127,18 +117,14 @@ fn put_others(text: &mut Vec<u8>, subject: Subject<'_>, most: usize) -> Result<(
     };
     let count = Piece::Count(others.len() as u64, word);
     put_all(text, &[Piece::Bytes(b"    and "), count])?;
-    put_variables(text, subject.machine.design(), others, most)?;
+    put_variables(text, subject.setting.design, others, most)?;
     put(text, b"\n")
 }
 
-// How a race at time 0 is mostly cured.
+// How a race at time 0 that shows later is mostly cured. Behind those that show at once it is said of all of them.
 fn put_start_cure(text: &mut Vec<u8>, subject: Subject<'_>) -> Result<(), NoMemory> {
-    if subject
-        .facts
-        .slot
-        .unwrap_or(subject.group.first.time(subject.machine))
-        == 0
-    {
+    let finding = subject.finding;
+    if !finding.is_at_start() && finding.slot == Some(0) {
         put(
             text,
             b"    at time 0: read it after a delay, as in `#1`, or at an edge that comes later; a value in a declaration is an `initial`, too\n",
@@ -163,15 +149,20 @@ fn put_end_cure(text: &mut Vec<u8>, word: &[u8]) -> Result<(), NoMemory> {
     )
 }
 
+// Whether ends differ by the order of their last slot: the two statements race in it, or weren't found.
+fn is_of_last_slot(finding: &Finding) -> bool {
+    let time = finding.first.time;
+    match finding.first.apart() {
+        None => false,
+        Some(apart) => !apart.in_end && finding.slot.unwrap_or(time) == time,
+    }
+}
+
 // How the race is mostly cured, if that can be said.
 fn put_cure(text: &mut Vec<u8>, subject: Subject<'_>) -> Result<(), NoMemory> {
-    match (&subject.group.first, &subject.facts.apart) {
-        (Difference::Ends(ends), Some(apart)) if !apart.in_end => {
-            match end_in(subject.machine, ends) {
-                Some(end) => put_end_cure(text, cause_words(end.cause)),
-                None => Ok(()),
-            }
-        }
+    let finding = subject.finding;
+    match finding.first.end() {
+        Some(end) if is_of_last_slot(finding) => put_end_cure(text, cause_words(end.cause)),
         _ => put_start_cure(text, subject),
     }
 }
@@ -202,7 +193,7 @@ fn put_head(
     put_difference(text, subject, rows)?;
     put(text, b"\n")?;
     put_waiver(text, waiver)?;
-    put_cause(alloc, text, subject)?;
+    put_both(alloc, text, subject)?;
     put_slot(text, subject)
 }
 
@@ -219,19 +210,18 @@ fn text_of(
     let rows = rows_of(alloc, subject)?;
     put_head(alloc, &mut text, waiver, subject, place, &rows)?;
     put_sides(&mut text, subject, &rows, behind)?;
-    put_others(&mut text, subject, summary.named_count())?;
+    put_end_variables(&mut text, subject, summary.named_count())?;
     put_cure(&mut text, subject)?;
-    put_more(&mut text, subject.machine, subject.group, summary.all)?;
+    put_more(&mut text, subject, summary.all)?;
     Ok(text)
 }
 
 /// What is told of each race of a top module, in their order.
-pub fn groups_texts(alloc: Global, findings: &Findings<'_>) -> Result<Vec<Vec<u8>>, NoMemory> {
+pub fn races_texts(alloc: Global, findings: &Findings<'_>) -> Result<Vec<Vec<u8>>, NoMemory> {
     let behind = behind_log(alloc, findings)?;
     let mut texts = Vec::new(alloc);
-    for (place, group) in findings.races.groups.iter().enumerate() {
-        let facts = Facts::new(alloc, findings.machine, group)?;
-        let subject = findings.subject(group, &facts);
+    for (place, finding) in findings.races.iter().enumerate() {
+        let subject = findings.subject(finding);
         let waiver = findings.waiver(place);
         let summary = *findings.summary;
         texts.push(text_of(alloc, summary, waiver, subject, place, &behind)?)?;
@@ -246,14 +236,35 @@ pub fn summary_text(alloc: Global, findings: &Findings<'_>) -> Result<Vec<u8>, N
     Ok(text)
 }
 
-/// The races of a top module, each by its cause, and what wasn't looked at.
+// What stands before the race of this place: a line, where it is the first of those that show at time 0.
+fn put_opening(text: &mut Vec<u8>, races: &[Finding], place: usize) -> Result<(), NoMemory> {
+    if is_first_at_start(races, place) {
+        put_all(text, &[Piece::Bytes(START), Piece::Bytes(b"\n")])?;
+    }
+    Ok(())
+}
+
+// How the races that show at time 0 are mostly cured, where there are such: the last one is.
+fn put_closing(text: &mut Vec<u8>, races: &[Finding]) -> Result<(), NoMemory> {
+    match races.last() {
+        Some(finding) if finding.is_at_start() => {
+            put_all(text, &[Piece::Bytes(START_CURE), Piece::Bytes(b"\n")])
+        }
+        _ => Ok(()),
+    }
+}
+
+/// The races of a top module, each by its cause, and what wasn't looked at. Those that show at time 0 stand in a part of their own.
 pub fn put_races(
     alloc: Global,
     text: &mut Vec<u8>,
     findings: &Findings<'_>,
 ) -> Result<(), NoMemory> {
-    for group in groups_texts(alloc, findings)? {
-        put(text, &group)?;
+    let texts = races_texts(alloc, findings)?;
+    for (place, race) in texts.iter().enumerate() {
+        put_opening(text, findings.races, place)?;
+        put(text, race)?;
     }
+    put_closing(text, findings.races)?;
     put_summary(text, findings)
 }

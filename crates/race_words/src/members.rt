@@ -3,6 +3,7 @@
 use crate::pieces::string_of;
 use basis::NoMemory;
 use serde_json::{Map, Value, put};
+use shown_text::shown_json;
 use std::alloc::Global;
 
 // A string of these bytes.
@@ -157,9 +158,10 @@ impl Items {
     }
 }
 
-/// The value as a text, its members a line each, with a line feed at its end.
+/// The value as a text, its members a line each, with a line feed at its end. Letters that a terminal would take for commands, or that turn
+/// text round, stand as JSON has them, `\u202e`.
 pub fn document(alloc: Global, value: &Value) -> Result<Vec<u8>, NoMemory> {
-    let mut text = value.to_vec_pretty(alloc)?;
+    let mut text = shown_json(alloc, &value.to_vec_pretty(alloc)?)?;
     text.push(b'\n')?;
     Ok(text)
 }

@@ -1,8 +1,9 @@
 // Pieces of a text: numbers, blanks, and bytes that a terminal shows as they are.
 
 use basis::NoMemory;
+use shown_text::{put_byte_code, put_shown, whole_letters};
 use std::alloc::Global;
-use value_text::{put_hexadecimal, put_short_decimal};
+use value_text::put_short_decimal;
 use vbits::Vec4;
 
 /// A piece of a text.
@@ -48,31 +49,16 @@ pub fn put_padded(text: &mut Vec<u8>, bytes: &[u8], width: usize) -> Result<(), 
     Ok(())
 }
 
-// `\x1b`: the byte by its two hexadecimal digits.
-fn put_escape(text: &mut Vec<u8>, byte: u8) -> Result<(), NoMemory> {
-    put(text, b"\\x")?;
-    put_hexadecimal(text, Vec4::from_u64(8, u64::from(byte)))
-}
-
-// A byte, as `\x1b` where a terminal would take it for a command.
-fn put_shown(text: &mut Vec<u8>, byte: u8) -> Result<(), NoMemory> {
-    if byte >= b' ' && byte != 127 {
-        put(text, &[byte])
-    } else {
-        put_escape(text, byte)
-    }
-}
-
-/// The first so many bytes as a terminal may be shown them, and `..` where there are more.
+/// The first so many bytes as a terminal may be shown them, and `..` where there are more. A letter of UTF-8 isn't cut.
 pub fn put_cut(text: &mut Vec<u8>, bytes: &[u8], most: usize) -> Result<(), NoMemory> {
-    for byte in bytes.iter().take(most) {
-        put_shown(text, *byte)?;
+    if bytes.len() <= most {
+        return put_shown(text, bytes, b"");
     }
-    if bytes.len() > most {
-        put(text, b"..")
-    } else {
-        Ok(())
+    match bytes.get(..whole_letters(bytes, most)) {
+        None => {}
+        Some(front) => put_shown(text, front, b"")?,
     }
+    put(text, b"..")
 }
 
 // The piece.
@@ -106,7 +92,7 @@ fn put_letters(text: &mut String, letters: &[u8]) -> Result<(), NoMemory> {
 fn put_escaped(alloc: Global, text: &mut String, bytes: &[u8]) -> Result<(), NoMemory> {
     for byte in bytes {
         let mut escape = Vec::new(alloc);
-        put_escape(&mut escape, *byte)?;
+        put_byte_code(&mut escape, *byte)?;
         put_letters(text, &escape)?;
     }
     Ok(())

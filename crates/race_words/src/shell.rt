@@ -2,6 +2,7 @@
 
 use crate::pieces::{Piece, put, put_all};
 use basis::NoMemory;
+use shown_text::{is_shown, put_shown};
 use std::alloc::Global;
 
 // Whether a shell takes the byte as it is.
@@ -36,13 +37,37 @@ fn put_quoted(text: &mut Vec<u8>, word: &[u8]) -> Result<(), NoMemory> {
     put(text, b"'")
 }
 
-/// The word behind a blank, in quotes where a shell would take it for something else.
+// The word with a backslash before each quote and backslash.
+fn escaped(alloc: Global, word: &[u8]) -> Result<Vec<u8>, NoMemory> {
+    let mut escaped = Vec::new(alloc);
+    for byte in word {
+        if *byte == b'\'' || *byte == b'\\' {
+            escaped.push(b'\\')?;
+        }
+        escaped.push(*byte)?;
+    }
+    Ok(escaped)
+}
+
+// The word as `$'a\x1bb'`, where letters stand by their numbers (POSIX.1-2024, 2.2.4).
+fn put_coded(text: &mut Vec<u8>, alloc: Global, word: &[u8]) -> Result<(), NoMemory> {
+    put(text, b"$'")?;
+    put_shown(text, &escaped(alloc, word)?, b"")?;
+    put(text, b"'")
+}
+
+/// The word behind a blank, in quotes where a shell would take it for something else. Letters that a terminal isn't shown stand by their
+/// numbers there.
 pub fn put_word(text: &mut Vec<u8>, word: &[u8]) -> Result<(), NoMemory> {
     put(text, b" ")?;
     if is_plain_word(word) {
         return put(text, word);
     }
-    put_quoted(text, word)
+    if is_shown(word) {
+        return put_quoted(text, word);
+    }
+    let alloc = *text.allocator();
+    put_coded(text, alloc, word)
 }
 
 /// An option whose value is a number.

@@ -1,7 +1,7 @@
 // Ranges of declarations, as far as numbers tell what they are.
 
 use crate::construct::Construct;
-use crate::words::{Words, is, is_one_of};
+use crate::words::{Words, is, is_name, is_one_of};
 
 // How many numbers of a bound are looked at, and how many signs before the first word of one.
 const FAR: usize = 64;
@@ -10,7 +10,7 @@ const FAR: usize = 64;
 const WIDTH: u64 = 64;
 
 // These may stand before the first word of a bound.
-const SIGNS: [&str; 10] = ["(", "{", "+", "-", "~", "!", "&", "|", "^", "$signed"];
+const SIGNS: &str = "( { + - ~ ! & | ^ $signed";
 
 // The value of a bound, and how many words it has.
 #[derive(Clone, Copy)]
@@ -72,39 +72,39 @@ impl Sum {
 fn bound_at(words: Words<'_>) -> Option<Bound> {
     let mut sum = Sum {
         before: 0,
-        last: number_of(words.word()),
+        last: number_of(words.word),
         is_less: false,
     };
     for pair in 0usize..FAR {
         let len = pair.saturating_mul(2).saturating_add(1);
         let next = len.saturating_add(1);
-        let sign = words.after(len);
-        if is_one_of(sign, &[":", "]"]) {
+        let sign = words.word_after(len);
+        if is_one_of(sign, ": ]") {
             let value = sum.whole();
             return Some(Bound { value, len });
         }
         if !words.is_plain_after(next) {
             return None;
         }
-        sum = sum.with(sign, number_of(words.after(next)))?;
+        sum = sum.with(sign, number_of(words.word_after(next)))?;
     }
     None
 }
 
 // Whether the bracket so many places earlier begins a range, and no select.
 fn begins_range(words: Words<'_>, fewer: usize) -> bool {
-    let selects = words.is_name_before(fewer.saturating_add(1))
-        || is_one_of(words.before(fewer.saturating_add(1)), &["]", ")", "}"]);
-    is(words.before(fewer), "[") && !selects
+    let selects = is_name(words.word_before(fewer.saturating_add(1)))
+        || is_one_of(words.word_before(fewer.saturating_add(1)), "] ) }");
+    is(words.word_before(fewer), "[") && !selects
 }
 
 /// Whether the word is the first one of the range of a declaration.
 pub(crate) fn opens_range(words: Words<'_>) -> bool {
     for fewer in 1usize..FAR {
-        if is(words.before(fewer), "[") {
+        if is(words.word_before(fewer), "[") {
             return begins_range(words, fewer);
         }
-        if !is_one_of(words.before(fewer), &SIGNS) {
+        if !is_one_of(words.word_before(fewer), SIGNS) {
             return false;
         }
     }
@@ -118,11 +118,11 @@ pub(crate) fn by_plain_number(words: Words<'_>) -> Option<Construct> {
     }
     let left = bound_at(words)?;
     let behind = words.later(left.len.saturating_add(1));
-    if !is(words.after(left.len), ":") || !behind.is_plain_after(0) {
+    if !is(words.word_after(left.len), ":") || !behind.is_plain_after(0) {
         return None;
     }
     let right = bound_at(behind)?;
-    if left.value.abs_diff(right.value) < WIDTH || !is(behind.after(right.len), "]") {
+    if left.value.abs_diff(right.value) < WIDTH || !is(behind.word_after(right.len), "]") {
         return None;
     }
     Some(Construct::WideVector)

@@ -15,6 +15,7 @@ pub(crate) enum Construct {
     BlockName,
     Cast,
     ChargedNet,
+    ChosenString,
     Class,
     Defparam,
     DelayRange,
@@ -466,7 +467,13 @@ static OF_STATEMENTS: [Row; 10] = [
 ];
 
 // Expressions and numbers.
-static OF_EXPRESSIONS: [Row; 9] = [
+static OF_EXPRESSIONS: [Row; 10] = [
+    Row {
+        construct: Construct::ChosenString,
+        names_word: false,
+        what: b"a string that `?` and `:` choose",
+        instead: b"write two prints: `if (ok) $display(\"PASS\"); else $display(\"FAIL\");`",
+    },
     Row {
         construct: Construct::DelayRange,
         names_word: false,

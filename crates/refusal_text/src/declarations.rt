@@ -2,29 +2,19 @@
 
 use crate::construct::Construct;
 use crate::walk::{Group, Level, NETS, Opening, Walk};
-use crate::words::{Words, is, is_one_of};
+use crate::words::{Words, is, is_name, is_one_of};
 
 // With these a declaration begins, beside those that a keyword tells.
-const DECLARATIONS: [&str; 7] = [
-    "reg",
-    "wire",
-    "integer",
-    "time",
-    "event",
-    "parameter",
-    "localparam",
-];
+const DECLARATIONS: &str = "reg wire integer time event parameter localparam";
 
 // As items these generate others.
-const GENERATING: [&str; 6] = ["if", "for", "case", "casez", "casex", "begin"];
+const GENERATING: &str = "if for case casez casex begin";
 
 // Behind these an item belongs to what generates it.
-const GENERATED: [&str; 3] = [")", "else", ":"];
+const GENERATED: &str = ") else :";
 
 // Switches whose names aren't reserved here.
-const SWITCHES: [&str; 9] = [
-    "tran", "tranif0", "tranif1", "rtran", "rtranif0", "rtranif1", "rnmos", "rpmos", "rcmos",
-];
+const SWITCHES: &str = "tran tranif0 tranif1 rtran rtranif0 rtranif1 rnmos rpmos rcmos";
 
 // How many words of a list of ports are looked at.
 const FAR: usize = 4_096;
@@ -37,11 +27,11 @@ fn is_in_list(walk: Walk) -> bool {
 // Whether all words before this one, up to the parenthesis that opens the list of ports, are names and commas.
 fn is_behind_names(words: Words<'_>) -> bool {
     for fewer in 1..FAR {
-        let before = words.before(fewer);
+        let before = words.word_before(fewer);
         if is(before, "(") {
             return fewer > 1;
         }
-        if !is(before, ",") && !words.is_name_before(fewer) {
+        if !is(before, ",") && !is_name(words.word_before(fewer)) {
             return false;
         }
     }
@@ -50,32 +40,32 @@ fn is_behind_names(words: Words<'_>) -> bool {
 
 // Whether the word ends a port that has no name, in a list of names.
 fn ends_no_port(words: Words<'_>) -> bool {
-    let before = words.before(1);
-    let is_first = is(words.word(), ",") && is(before, "(");
+    let before = words.before;
+    let is_first = is(words.word, ",") && is(before, "(");
     is_first || (is(before, ",") && is_behind_names(words))
 }
 
 // Whether the word begins a port that is a part of a net.
 fn is_part_port(words: Words<'_>, walk: Walk) -> bool {
     is_in_list(walk)
-        && is_one_of(words.before(1), &["(", ","])
-        && words.is_name_after(0)
-        && is(words.after(1), "[")
+        && is_one_of(words.before, "( ,")
+        && is_name(words.word)
+        && is(words.after, "[")
 }
 
 // The construct of an item that this word begins.
 fn by_item(words: Words<'_>, walk: Walk) -> Option<Construct> {
-    let (word, before) = (words.word(), words.before(1));
+    let (word, before) = (words.word, words.before);
     if !walk.starts {
         return None;
     }
-    if is_one_of(word, &SWITCHES) {
+    if is_one_of(word, SWITCHES) {
         return Some(Construct::ThreeState);
     }
     if is(word, "or") {
         return Some(Construct::Gate);
     }
-    if is_one_of(word, &GENERATING) && !walk.generates && !is_one_of(before, &GENERATED) {
+    if is_one_of(word, GENERATING) && !walk.generates && !is_one_of(before, GENERATED) {
         return Some(Construct::Generate);
     }
     None
@@ -83,18 +73,17 @@ fn by_item(words: Words<'_>, walk: Walk) -> Option<Construct> {
 
 /// The construct of a declaration, an item or a port that this word begins.
 pub(crate) fn by_name(words: Words<'_>, walk: Walk) -> Option<Construct> {
-    let word = words.word();
-    if is_one_of(word, &DECLARATIONS) && walk.is_in_block() {
+    let word = words.word;
+    if is_one_of(word, DECLARATIONS) && walk.is_in_block() {
         return Some(Construct::BlockDeclaration);
     }
-    let is_routine = walk.level == Level::Routine;
-    if is_one_of(word, &["integer", "time"]) && is(words.before(1), "input") && !is_routine {
+    if is_one_of(word, "integer time") && is(words.before, "input") && !walk.is_in_routine() {
         return Some(Construct::InputType);
     }
-    if is_one_of(word, &["input", "output"]) && is_in_list(walk) && is_behind_names(words) {
+    if is_one_of(word, "input output") && is_in_list(walk) && is_behind_names(words) {
         return Some(Construct::MixedPorts);
     }
-    if is_one_of(word, &["vectored", "scalared"]) && is_one_of(words.before(1), &NETS) {
+    if is_one_of(word, "vectored scalared") && is_one_of(words.before, NETS) {
         return Some(Construct::Vectored);
     }
     if is_part_port(words, walk) {
@@ -112,14 +101,12 @@ fn is_before_value(walk: Walk, opening: Opening) -> bool {
 pub(crate) fn by_symbol(words: Words<'_>, walk: Walk) -> Option<Construct> {
     let is_driven = is_before_value(walk, Opening::Assign) || is_before_value(walk, Opening::Net);
     let is_port = is_in_list(walk);
-    match words.word() {
-        word if is(word, "=") && is_port && is_behind_names(words) => Some(Construct::PortValue),
-        word if is_one_of(word, &[",", ")"]) && is_port && ends_no_port(words) => {
-            Some(Construct::UnnamedPort)
-        }
-        word if is(word, "{") && is_port && !walk.assigned => Some(Construct::PortExpression),
-        word if is(word, "#") && is_driven => Some(Construct::NetDelay),
-        word if is(word, "(") && is_driven => Some(Construct::Strength),
+    match words.word {
+        b"=" if is_port && is_behind_names(words) => Some(Construct::PortValue),
+        b"," | b")" if is_port && ends_no_port(words) => { Some(Construct::UnnamedPort) }
+        b"{" if is_port && !walk.assigned => Some(Construct::PortExpression),
+        b"#" if is_driven => Some(Construct::NetDelay),
+        b"(" if is_driven && !is(words.before, "#") => Some(Construct::Strength),
         _ => None,
     }
 }

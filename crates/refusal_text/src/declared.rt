@@ -3,7 +3,7 @@
 use crate::construct::Construct;
 use crate::modules::{Named, are_named, modules_of};
 use crate::walk::{Group, Level, Opening, Walk};
-use crate::words::{Words, is, is_one_of};
+use crate::words::{Words, is, is_name, is_one_of};
 use basis::NoMemory;
 use std::alloc::Global;
 use vlex::Tokens;
@@ -47,25 +47,25 @@ fn is_in_item(walk: Walk) -> bool {
 
 // Whether the word is the name of a port, where its direction was told before.
 fn is_port(words: Words<'_>, walk: Walk) -> bool {
-    let next = words.after(1);
-    let is_listed = is_in_ports(walk) && is_one_of(next, &[",", ")", "="]);
-    let is_declared = is_in_item(walk) && is_one_of(next, &[",", ";", "="]);
-    words.is_name_after(0) && !walk.assigned && (is_listed || is_declared)
+    let next = words.after;
+    let is_listed = is_in_ports(walk) && is_one_of(next, ", ) =");
+    let is_declared = is_in_item(walk) && is_one_of(next, ", ; =");
+    is_name(words.word) && !walk.assigned && (is_listed || is_declared)
 }
 
 impl<'a> Head<'a> {
     // Behind the word.
     fn after(&self, words: Words<'a>, walk: Walk) -> Head<'a> {
         let mut next = *self;
-        if is(words.before(1), "module") {
+        if is(words.before, "module") {
             next.module = words.name();
             next.is_output = false;
         }
         if walk.level == Level::Items && walk.starts {
-            next.is_output = is(words.word(), "output");
+            next.is_output = is(words.word, "output");
         }
-        if is_in_ports(walk) && is_one_of(words.word(), &["input", "output", "inout"]) {
-            next.is_output = is(words.word(), "output");
+        if is_in_ports(walk) && is_one_of(words.word, "input output inout") {
+            next.is_output = is(words.word, "output");
         }
         next
     }
@@ -107,23 +107,20 @@ pub(crate) fn declared_of<'a>(
 
 // Whether the word begins a path of `$dumpvars`.
 fn is_path(words: Words<'_>, walk: Walk) -> bool {
-    walk.group == Group::Dump
-        && walk.open == 1
-        && is(words.before(1), ",")
-        && words.is_name_after(0)
+    walk.group == Group::Dump && walk.open == 1 && is(words.before, ",") && is_name(words.word)
 }
 
 // Whether the word so many places later may stand in what is driven, outside of square brackets.
 fn is_of_target(words: Words<'_>, more: usize) -> bool {
-    words.is_name_after(more) || is_one_of(words.after(more), &["{", "}", ",", "[", "]"])
+    is_name(words.word_after(more)) || is_one_of(words.word_after(more), "{ } , [ ]")
 }
 
-// Whether what this word begins, up to the parenthesis that closes it, is nets, bits and parts of nets, and concatenations of these; or it is
-// nothing, or longer.
+// Whether what this word begins, up to the parenthesis that closes it, is nets, bits and parts of nets, and concatenations of these; or
+// it is nothing, or longer.
 fn is_target(words: Words<'_>) -> bool {
     let mut open = 0usize;
     for more in 0..FAR {
-        let word = words.after(more);
+        let word = words.word_after(more);
         if open == 0 && is(word, ")") {
             return true;
         }
@@ -142,7 +139,7 @@ fn is_target(words: Words<'_>) -> bool {
 
 // Whether the word begins an expression to which a port is connected by name, and which can't be driven.
 fn is_expression(words: Words<'_>, walk: Walk) -> bool {
-    let is_first = is(words.before(1), "(") && is(words.before(3), ".");
+    let is_first = is(words.before, "(") && is(words.word_before(3), ".");
     walk.level == Level::Items
         && walk.opening == Opening::Instance
         && walk.open == 2

@@ -7,74 +7,25 @@ use crate::words::{is, is_one_of};
 use basis::digits_len;
 
 // The directives that there are, by their words.
-const DIRECTIVES: [&str; 18] = [
-    "define",
-    "undef",
-    "ifdef",
-    "ifndef",
-    "elsif",
-    "else",
-    "endif",
-    "timescale",
-    "default_nettype",
-    "celldefine",
-    "endcelldefine",
-    "resetall",
-    "begin_keywords",
-    "end_keywords",
-    "line",
-    "pragma",
-    "unconnected_drive",
-    "nounconnected_drive",
-];
+const DIRECTIVES: &str =
+    "define undef ifdef ifndef elsif else endif timescale default_nettype celldefine endcelldefine resetall \
+    begin_keywords end_keywords line pragma unconnected_drive nounconnected_drive";
 
 // Those that have a name behind them.
-const NAMING: [&str; 6] = [
-    "define",
-    "undef",
-    "ifdef",
-    "ifndef",
-    "elsif",
-    "default_nettype",
-];
+const NAMING: &str = "define undef ifdef ifndef elsif default_nettype";
 
 // Those that stand in a conditional.
-const CONDITIONAL: [&str; 3] = ["elsif", "else", "endif"];
+const CONDITIONAL: &str = "elsif else endif";
 
 // Directives of other simulators, and of annexes of the standard: those that stand alone, and those that have the rest of their line.
-const OTHERS: [&str; 23] = [
-    "accelerate",
-    "noaccelerate",
-    "autoexpand_vectornets",
-    "expand_vectornets",
-    "noexpand_vectornets",
-    "delay_mode_distributed",
-    "delay_mode_path",
-    "delay_mode_unit",
-    "delay_mode_zero",
-    "disable_portfaults",
-    "enable_portfaults",
-    "nosuppress_faults",
-    "suppress_faults",
-    "protect",
-    "endprotect",
-    "protected",
-    "endprotected",
-    "remove_gatenames",
-    "noremove_gatenames",
-    "remove_netnames",
-    "noremove_netnames",
-    "signed",
-    "unsigned",
-];
+const OTHERS: &str =
+    "accelerate noaccelerate autoexpand_vectornets expand_vectornets noexpand_vectornets delay_mode_distributed \
+    delay_mode_path delay_mode_unit delay_mode_zero disable_portfaults enable_portfaults nosuppress_faults \
+    suppress_faults protect endprotect protected endprotected remove_gatenames noremove_gatenames remove_netnames \
+    noremove_netnames signed unsigned";
 
-const WITH_LINE: [&str; 5] = [
-    "default_decay_time",
-    "default_rswitch_strength",
-    "default_switch_strength",
-    "default_trireg_strength",
-    "uselib",
-];
+const WITH_LINE: &str =
+    "default_decay_time default_rswitch_strength default_switch_strength default_trireg_strength uselib";
 
 // The units of a timescale, each with its power of ten in femtoseconds.
 struct Unit {
@@ -178,17 +129,17 @@ fn of_form(name: &[u8], behind: &[u8]) -> Option<Mistake> {
         name if is(name, "begin_keywords") => Some(Mistake::KeywordsVersion),
         name if is(name, "end_keywords") => Some(Mistake::ClosedKeywords),
         name if is(name, "unconnected_drive") => Some(Mistake::PullForm),
-        name if is_one_of(name, &NAMING) && len_of(Letters::OfName, next) == 0 => {
+        name if is_one_of(name, NAMING) && len_of(Letters::OfName, next) == 0 => {
             Some(Mistake::NamelessDirective)
         }
-        name if is_one_of(name, &CONDITIONAL) => Some(Mistake::ClosedConditional),
+        name if is_one_of(name, CONDITIONAL) => Some(Mistake::ClosedConditional),
         _ => None,
     }
 }
 
 /// What is wrong with the directive of this name, with what stands behind it on its line, or before it.
 pub(crate) fn mistake_of(name: &[u8], behind: &[u8], is_first: bool) -> Option<Mistake> {
-    if !is_one_of(name, &DIRECTIVES) {
+    if !is_one_of(name, DIRECTIVES) {
         return None;
     }
     if !is_first {
@@ -199,10 +150,10 @@ pub(crate) fn mistake_of(name: &[u8], behind: &[u8], is_first: bool) -> Option<M
 
 /// Whether the name is that of a directive that the profile leaves out.
 pub(crate) fn is_other(name: &[u8]) -> bool {
-    is_one_of(name, &OTHERS) || takes_line(name)
+    is_one_of(name, OTHERS) || takes_line(name)
 }
 
 /// Whether such a directive has the rest of its line.
 pub(crate) fn takes_line(name: &[u8]) -> bool {
-    is_one_of(name, &WITH_LINE)
+    is_one_of(name, WITH_LINE)
 }

@@ -6,7 +6,7 @@ use crate::formats::{bad_format, letters_of};
 use crate::mistakes::{Mistake, rule_for};
 use crate::modules::begins_instances;
 use crate::walk::{Level, Walk, walk_to};
-use crate::words::{Words, is_one_of};
+use crate::words::{Words, is, is_one_of};
 use crate::{bounds, declarations, expressions, keywords, statements, system_verilog};
 use basis::NoMemory;
 use std::alloc::Global;
@@ -65,6 +65,10 @@ fn by_name(words: Words<'_>, walk: Walk) -> Option<Construct> {
 /// The construct that the word tells, if it tells one; but for the formats of a string.
 pub(crate) fn construct_of(words: Words<'_>, walk: Walk) -> Option<Construct> {
     if walk.attribute || walk.level == Level::Passed {
+        return None;
+    }
+    // a task may have one, and is told itself
+    if is(words.word, "inout") && walk.is_in_routine() {
         return None;
     }
     if let Some(construct) = keywords::by_keyword(words) {
@@ -132,14 +136,14 @@ fn is_call(construct: Construct) -> bool {
 
 // A construct that this word tells: a call stands where its name does, a real number where it begins.
 fn told_at<'a>(words: Words<'a>, construct: Construct) -> Found<'a> {
-    let is_call = is_one_of(words.word(), &["(", ";"]) && is_call(construct);
+    let is_call = is_one_of(words.word, "( ;") && is_call(construct);
     let is_number = construct == Construct::Real && words.is_plain_before(1) && words.adjoins();
     let place = if is_call || is_number {
         words.previous()
     } else {
         words
     };
-    found_at(place, construct, words.word())
+    found_at(place, construct, words.word)
 }
 
 /// A construct at this word.
@@ -154,7 +158,7 @@ pub(crate) fn found_at<'a>(words: Words<'a>, construct: Construct, word: &'a [u8
 
 // Keeps each format of the string that the profile leaves out.
 fn keep_formats<'a>(all: &mut Vec<Found<'a>>, words: Words<'a>) -> Result<(), NoMemory> {
-    let mut rest = letters_of(words.word());
+    let mut rest = letters_of(words.word);
     for _ in 0..rest.len() {
         let Some(format) = bad_format(rest) else {
             return Ok(());

@@ -5,6 +5,7 @@ use crate::construct::Construct;
 use crate::directives::{is_other, mistake_of, takes_line};
 use crate::find::What;
 use crate::lines::{from, front};
+use crate::mistakes::Mistake;
 use crate::numbers;
 use crate::words::is_one_of;
 use basis::is_in_name;
@@ -213,12 +214,17 @@ fn by_directive(rest: &[u8], is_first: bool) -> Flaw {
         return flaw_blanked(what, word, definition_len(rest));
     }
     let kind = word_behind(rest, word);
-    let is_known = kind.is_empty() || is_one_of(kind, &["wire", "none"]);
+    let is_known = kind.is_empty() || is_one_of(kind, "wire none");
     if rest.starts_with(b"`default_nettype") && !is_known {
         let what = What::LeftOut(Construct::NetTypeDirective);
         return flaw_blanked(what, word, line_len(rest));
     }
     flaw_blanked(what, word, line_len(rest))
+}
+
+// The first of two backticks, which becomes a blank.
+fn by_backticks() -> Flaw {
+    flaw_blanked(What::Mistake(Mistake::DoubledBacktick), 0, 1)
 }
 
 // A comment or a string that isn't ended.
@@ -234,6 +240,7 @@ fn by_open(rest: &[u8]) -> Flaw {
 pub(crate) fn flaw_of(number: u16, rest: &[u8], is_first: bool, files: &[Vec<u8>]) -> Flaw {
     match number {
         101 => by_open(rest),
+        _ if rest.starts_with(b"``") => by_backticks(),
         102 => numbers::flaw_of(rest),
         110 if rest.starts_with(b"`") => by_directive(rest, is_first),
         111 if rest.starts_with(b"`") => by_macro(rest, files),

@@ -27,6 +27,7 @@ mod rules;
 mod statements;
 mod system_verilog;
 mod system_verilog_rows;
+mod text;
 mod told;
 mod tops;
 mod undeclared;

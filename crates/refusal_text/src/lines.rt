@@ -1,13 +1,13 @@
 // Lines of the files, with a caret under a column.
 
-use basis::NoMemory;
+use crate::text::Text;
 use memchr::memchr;
 use vsrc::Place;
 
-// How much of a line is shown before the caret, and in all.
+// How much of a line is shown before the caret, and in all; before it stand four blanks.
 const BEFORE: usize = 80;
 
-const WIDTH: usize = 120;
+const WIDTH: usize = 116;
 
 /// The files, by their names and texts.
 #[derive(Clone, Copy)]
@@ -82,50 +82,33 @@ impl<'a> Files<'a> {
     }
 }
 
-// A byte of a source line as any terminal may be shown it: `?` in place of one that isn't a letter of ASCII.
-fn printable(byte: u8) -> u8 {
-    if byte == b'\t' || byte.is_ascii_graphic() || byte == b' ' {
-        byte
-    } else {
-        b'?'
+// How many letters the line has up to the semicolon, from the column on, that ends a statement: one outside of parentheses and of
+// strings. All of them where there is none, or where a comment begins first.
+fn statement_end(line: &[u8], column: usize) -> usize {
+    let (mut open, mut is_quoted, mut before) = (0usize, false, b' ');
+    for (at, letter) in line.iter().enumerate() {
+        match *letter {
+            b'"' if before != b'\\' => is_quoted = !is_quoted,
+            _ if is_quoted => {}
+            b'(' => open = open.saturating_add(1),
+            b')' => open = open.saturating_sub(1),
+            b'/' if before == b'/' => return line.len(),
+            b';' if open == 0 && at >= column => return at.saturating_add(1),
+            _ => {}
+        }
+        before = *letter;
     }
+    line.len()
 }
 
-// What moves the caret as far as the byte moves the text.
-fn step_of(byte: u8) -> u8 {
-    if byte == b'\t' { b'\t' } else { b' ' }
-}
-
-/// These pieces, one after another.
-pub(crate) fn put_all(text: &mut Vec<u8>, pieces: &[&[u8]]) -> Result<(), NoMemory> {
-    for piece in pieces {
-        text.extend_from_slice(piece)?;
-    }
-    Ok(())
-}
-
-/// The letters as any terminal may be shown them.
-pub(crate) fn put_letters(text: &mut Vec<u8>, letters: &[u8]) -> Result<(), NoMemory> {
-    for letter in letters {
-        text.push(printable(*letter))?;
-    }
-    Ok(())
-}
-
-// What moves the caret behind these letters.
-fn put_steps(text: &mut Vec<u8>, letters: &[u8]) -> Result<(), NoMemory> {
-    for letter in letters {
-        text.push(step_of(*letter))?;
-    }
-    Ok(())
-}
-
-/// Behind what is told the line, and below it a caret under the column, from 0. Of a long line there is what stands round it.
-pub(crate) fn put_pointed(text: &mut Vec<u8>, line: &[u8], column: usize) -> Result<(), NoMemory> {
+/// Behind what is told the line up to the end of the statement at the column, from 0, and below it a caret under that. Of a long line
+/// there is what stands round it.
+pub(crate) fn put_pointed(text: &mut Text, line: &[u8], column: usize) {
+    let line = front(line, statement_end(line, column));
     let shown = from(line, column.saturating_sub(BEFORE));
-    put_all(text, &[b"\n    "])?;
-    put_letters(text, front(shown, WIDTH))?;
-    put_all(text, &[b"\n    "])?;
-    put_steps(text, front(shown, column.min(BEFORE)))?;
-    put_all(text, &[b"^\n"])
+    text.put_all(&[b"\n    "]);
+    text.put_letters(front(shown, WIDTH));
+    text.put_all(&[b"\n    "]);
+    text.put_steps(front(shown, column.min(BEFORE)));
+    text.put_all(&[b"^\n"]);
 }

@@ -12,6 +12,7 @@ pub(crate) enum Mistake {
     ConnectedPorts,
     ConnectedSize,
     DeclaredPort,
+    DoubledBacktick,
     Escape,
     FormatOfString,
     InputReg,
@@ -50,7 +51,16 @@ struct Row {
 }
 
 // Told of letters and directives.
-static OF_LETTERS: [Row; 11] = [
+static OF_LETTERS: [Row; 12] = [
+    Row {
+        mistake: Mistake::DoubledBacktick,
+        rule: Rule {
+            number: 110,
+            names_word: false,
+            what: b"one backtick too many",
+            instead: b"write one: a directive begins with one backtick, and so does the use of a macro",
+        },
+    },
     Row {
         mistake: Mistake::Escape,
         rule: Rule {

@@ -1,7 +1,7 @@
 // The modules of a text, and of which of them there are instances.
 
 use crate::walk::{Level, Opening, Walk};
-use crate::words::{Words, is};
+use crate::words::{Words, is, is_name};
 use basis::NoMemory;
 use std::alloc::Global;
 use vlex::Tokens;
@@ -37,7 +37,7 @@ pub(crate) fn begins_instances(words: Words<'_>, walk: Walk) -> bool {
     walk.level == Level::Items
         && walk.starts
         && walk.after(words).opening == Opening::Instance
-        && (words.is_name_after(1) || is(words.after(1), "#"))
+        && (is_name(words.after) || is(words.after, "#"))
 }
 
 /// The modules and the instances of a text.
@@ -52,10 +52,10 @@ pub(crate) fn modules_of<'a>(
         let words = Words::new(tokens, at);
         let named = Named {
             name: words.name(),
-            word: words.word(),
+            word: words.word,
             place: words.place(),
         };
-        if is(words.before(1), "module") {
+        if is(words.before, "module") {
             modules.push(named)?;
         } else if begins_instances(words, walk) {
             instances.push(named)?;

@@ -128,8 +128,7 @@ fn is_escape(letters: &[u8]) -> bool {
     match letters.first() {
         None => false,
         Some(letter) => {
-            is_one_of(front(letters, 1), &["n", "t", "\\", "\""])
-                || (is_octal(*letter) && !is_over(letters))
+            is_one_of(front(letters, 1), "n t \\ \"") || (is_octal(*letter) && !is_over(letters))
         }
     }
 }

@@ -5,7 +5,7 @@ use crate::words::{Words, is_name, is_one_of};
 
 /// Words, and the construct that each of them tells.
 pub(crate) struct Keywords {
-    pub(crate) words: &'static [&'static str],
+    pub(crate) words: &'static str,
     pub(crate) construct: Construct,
 }
 
@@ -14,13 +14,13 @@ pub(crate) struct Keywords {
 pub(crate) enum Beside {
     Any,
     Name,
-    One(&'static [&'static str]),
-    Not(&'static [&'static str]),
+    One(&'static str),
+    Not(&'static str),
 }
 
 /// Words, what may stand before them and what next and then behind them, and the construct that they tell there.
 pub(crate) struct Phrase {
-    pub(crate) words: &'static [&'static str],
+    pub(crate) words: &'static str,
     pub(crate) before: Beside,
     pub(crate) next: Beside,
     pub(crate) then: Beside,
@@ -42,10 +42,10 @@ impl Beside {
 impl Phrase {
     // Whether the words stand here.
     fn stands(&self, words: Words<'_>) -> bool {
-        is_one_of(words.word(), self.words)
-            && self.before.takes(words.before(1))
-            && self.next.takes(words.after(1))
-            && self.then.takes(words.after(2))
+        is_one_of(words.word, self.words)
+            && self.before.takes(words.before)
+            && self.next.takes(words.after)
+            && self.then.takes(words.second_after)
     }
 }
 

@@ -3,7 +3,7 @@
 use crate::mistakes::Mistake;
 use crate::undeclared::declares;
 use crate::walk::{Group, Level, Opening, Walk};
-use crate::words::{Words, is, is_one_of};
+use crate::words::{Words, is, is_name, is_one_of};
 use vlex::Tokens;
 
 // How many words of a range are compared, and how many may stand before it.
@@ -12,7 +12,7 @@ const FAR: usize = 256;
 const FRONT: usize = 4;
 
 // With these a port is declared, or a net or a variable besides it.
-const DECLARING: [&str; 4] = ["input", "output", "reg", "wire"];
+const DECLARING: &str = "input output reg wire";
 
 // Where a word stands, and the first word of its module and of its item.
 #[derive(Clone, Copy)]
@@ -41,7 +41,7 @@ fn standing_of<'a>(tokens: &'a Tokens<'a>, at: usize) -> Standing {
     };
     for before in 0..at {
         let words = Words::new(tokens, before);
-        if is(words.word(), "module") {
+        if is(words.word, "module") {
             standing.module = before;
         }
         if standing.walk.starts {
@@ -81,14 +81,14 @@ fn ways_of<'a>(tokens: &'a Tokens<'a>, module: usize, name: &[u8]) -> Ways {
     let (mut walk, mut item) = (Walk::new(), module);
     for at in module..tokens.len() {
         let words = Words::new(tokens, at);
-        if is(words.word(), "endmodule") {
+        if is(words.word, "endmodule") {
             return ways;
         }
         if walk.starts {
             item = at;
         }
         if words.name() == name && declares(words, walk) {
-            ways = ways.with(walk, item, Words::new(tokens, item).word());
+            ways = ways.with(walk, item, Words::new(tokens, item).word);
         }
         walk = walk.after(words);
     }
@@ -98,7 +98,7 @@ fn ways_of<'a>(tokens: &'a Tokens<'a>, module: usize, name: &[u8]) -> Ways {
 // The text, looked at from the first word of an item that is neither a kind nor a sign.
 fn behind_kind(words: Words<'_>) -> Words<'_> {
     for more in 1..FRONT {
-        if !is_one_of(words.after(more), &["reg", "wire", "signed"]) {
+        if !is_one_of(words.word_after(more), "reg wire signed") {
             return words.later(more);
         }
     }
@@ -108,23 +108,23 @@ fn behind_kind(words: Words<'_>) -> Words<'_> {
 // How many brackets are open behind the word, where so many were before.
 fn open_behind(open: usize, word: &[u8]) -> usize {
     match word {
-        word if is(word, "[") => open.saturating_add(1),
-        word if is(word, "]") => open.saturating_sub(1),
+        b"[" => open.saturating_add(1),
+        b"]" => open.saturating_sub(1),
         _ => open,
     }
 }
 
 // Whether both begin with the same range, or with none.
 fn have_same_range(one: Words<'_>, other: Words<'_>) -> bool {
-    if !is(one.word(), "[") && !is(other.word(), "[") {
+    if !is(one.word, "[") && !is(other.word, "[") {
         return true;
     }
     let mut open = 0usize;
     for more in 0..FAR {
-        if one.after(more) != other.after(more) {
+        if one.word_after(more) != other.word_after(more) {
             return false;
         }
-        open = open_behind(open, one.after(more));
+        open = open_behind(open, one.word_after(more));
         if open == 0 {
             return true;
         }
@@ -148,20 +148,20 @@ fn of_listed(words: Words<'_>, number: u16) -> Option<Mistake> {
     match number {
         302 => Some(Mistake::SamePort),
         303 => Some(Mistake::UndirectedPort),
-        310 if is(words.after(1), "=") => Some(Mistake::ValuedPort),
+        310 if is(words.after, "=") => Some(Mistake::ValuedPort),
         _ => None,
     }
 }
 
 // What is wrong with a name that an item declares, by how its module declares it otherwise.
 fn of_item<'a>(tokens: &'a Tokens<'a>, number: u16, item: usize, ways: Ways) -> Option<Mistake> {
-    let first = Words::new(tokens, item).word();
-    let is_second = is_one_of(first, &["reg", "wire"]);
-    let is_integer = is_one_of(first, &["integer", "time"]);
-    let is_port = is_one_of(first, &["input", "output"]);
+    let first = Words::new(tokens, item).word;
+    let is_second = is_one_of(first, "reg wire");
+    let is_integer = is_one_of(first, "integer time");
+    let is_port = is_one_of(first, "input output");
     match number {
         302 if ways.is_listed && is_integer => Some(Mistake::IntegerPort),
-        302 if ways.is_listed && is_one_of(first, &DECLARING) => Some(Mistake::DeclaredPort),
+        302 if ways.is_listed && is_one_of(first, DECLARING) => Some(Mistake::DeclaredPort),
         303 if is_port => Some(Mistake::UnlistedPort),
         306 if is_second && !are_alike(tokens, ways.direction, item) => Some(Mistake::OtherRange),
         310 if is(first, "reg") && ways.is_input => Some(Mistake::InputVariable),
@@ -184,13 +184,13 @@ fn of_instance(number: u16) -> Option<Mistake> {
 // Whether the word names an instance where it is made.
 fn names_instance(words: Words<'_>, walk: Walk) -> bool {
     let is_item = walk.level == Level::Items && walk.opening == Opening::Instance;
-    is_item && walk.open == 0 && is(words.after(1), "(")
+    is_item && walk.open == 0 && is(words.after, "(")
 }
 
 /// What is wrong with the port, the parameter or the instance that the word at this place names, where that tells a fault of this number.
 pub(crate) fn mistake_of<'a>(tokens: &'a Tokens<'a>, at: usize, number: u16) -> Option<Mistake> {
     let words = Words::new(tokens, at);
-    if !words.is_name_after(0) {
+    if !is_name(words.word) {
         return None;
     }
     let standing = standing_of(tokens, at);

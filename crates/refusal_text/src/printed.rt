@@ -15,27 +15,11 @@ const FAR: usize = 4_096;
 const FRONT: usize = 128;
 
 // These may stand before it.
-const FRONTS: [&str; 15] = [
-    "(",
-    "{",
-    "+",
-    "-",
-    "~",
-    "!",
-    "&",
-    "|",
-    "^",
-    "~&",
-    "~|",
-    "^~",
-    "~^",
-    "$signed",
-    "$unsigned",
-];
+const FRONTS: &str = "( { + - ~ ! & | ^ ~& ~| ^~ ~^ $signed $unsigned";
 
-const OPENING: [&str; 3] = ["(", "[", "{"];
+const OPENING: &str = "( [ {";
 
-const CLOSING: [&str; 3] = [")", "]", "}"];
+const CLOSING: &str = ") ] }";
 
 // Arguments up to a word: the string whose format is read and what is left of it, how many brackets are open, whether an argument begins,
 // what was wrong.
@@ -51,11 +35,11 @@ struct Printed<'a> {
 // The text, looked at from the first word of a task's arguments, whose first name, number or string this word is.
 fn arguments_at<'a>(words: Words<'a>) -> Option<Words<'a>> {
     for fewer in 1usize..FRONT {
-        let before = words.before(fewer);
-        if is(before, "(") && is_one_of(words.before(fewer.saturating_add(1)), &PRINTS) {
+        let before = words.word_before(fewer);
+        if is(before, "(") && is_one_of(words.word_before(fewer.saturating_add(1)), PRINTS) {
             return Some(words.earlier(fewer.saturating_sub(1)));
         }
-        if !is_one_of(before, &FRONTS) {
+        if !is_one_of(before, FRONTS) {
             return None;
         }
     }
@@ -103,7 +87,7 @@ impl<'a> Printed<'a> {
 
     // Behind a string that is a format.
     fn at_format(&self, words: Words<'a>) -> Printed<'a> {
-        let mut next = self.left(letters_of(words.word()));
+        let mut next = self.left(letters_of(words.word));
         next.string = words;
         next
     }
@@ -118,7 +102,7 @@ impl<'a> Printed<'a> {
 
     // Behind an argument that begins with this word, or, where it is left out, ends before it; then it is shown as a string.
     fn after_argument(&self, words: Words<'a>) -> Printed<'a> {
-        let is_left_out = is_one_of(words.word(), &[",", ")"]);
+        let is_left_out = is_one_of(words.word, ", )");
         let is_string = words.is(TokenKind::Text) || is_left_out;
         match next_format(self.format) {
             Some(format) if format.form.is_none() => self.with_refusal(self.left_out(format)),
@@ -137,12 +121,12 @@ impl<'a> Printed<'a> {
         } else {
             *self
         };
-        let word = words.word();
+        let word = words.word;
         next.begins = is(word, ",") && self.open == 0;
-        if is_one_of(word, &OPENING) {
+        if is_one_of(word, OPENING) {
             next.open = self.open.saturating_add(1);
         }
-        if is_one_of(word, &CLOSING) {
+        if is_one_of(word, CLOSING) {
             next.open = self.open.saturating_sub(1);
         }
         next
@@ -163,7 +147,7 @@ fn wrong_in<'a>(words: Words<'a>) -> Option<Found<'a>> {
         if printed.wrong.is_some() {
             return printed.wrong;
         }
-        if printed.open == 0 && is(word.word(), ")") {
+        if printed.open == 0 && is(word.word, ")") {
             let last = if printed.begins {
                 printed.after_argument(word)
             } else {

@@ -11,6 +11,7 @@ use crate::mistakes::{Mistake, rule_for};
 use crate::modules::modules_of;
 use crate::ports::mistake_of;
 use crate::printed::format_near;
+use crate::text::Text;
 use crate::tops::{missing_modules, put_none, put_several};
 use crate::undeclared::undeclared_names;
 use crate::words::{Words, is};
@@ -21,6 +22,13 @@ use vsrc::{Place, expand};
 
 // The first number of a fault of words; below it are those of letters.
 const OF_WORDS: u16 = 200;
+
+// Behind all files.
+const END: Place = Place {
+    file: usize::MAX,
+    line: 0,
+    column: 0,
+};
 
 // The word that begins at the place; the number of words where none does.
 fn word_at<'a>(tokens: &'a Tokens<'a>, place: Place) -> usize {
@@ -55,27 +63,27 @@ fn range_at<'a>(tokens: &'a Tokens<'a>, at: usize) -> Option<Found<'a>> {
     }
     let words = Words::new(tokens, at);
     if opens_range(words) {
-        return Some(found_at(words, Construct::Range, words.word()));
+        return Some(found_at(words, Construct::Range, words.word));
     }
     None
 }
 
 // Whether the word names an instance that is connected by names: what is told at it is an output on an expression.
 fn is_connected_by_names(words: Words<'_>) -> bool {
-    is(words.after(1), "(") && is(words.after(2), ".")
+    is(words.after, "(") && is(words.second_after, ".")
 }
 
 // Whether the word is the number of levels of `$dumpvars`, where what is wrong with its paths is told.
 fn is_dump_path(tokens: &Tokens<'_>, at: usize) -> bool {
     let words = Words::new(tokens, at);
-    words.is(TokenKind::Plain) && is(words.before(1), "(") && is(words.before(2), "$dumpvars")
+    words.is(TokenKind::Plain) && is(words.before, "(") && is(words.second_before, "$dumpvars")
 }
 
 // A mistake at this word.
 fn found_mistake<'a>(words: Words<'a>, mistake: Mistake) -> Found<'a> {
     Found {
         what: What::Mistake(mistake),
-        word: words.word(),
+        word: words.word,
         place: words.place(),
         more: 0,
     }
@@ -112,9 +120,9 @@ fn cause_of<'a>(tokens: &'a Tokens<'a>, at: usize, number: u16) -> Option<Found<
         201 | 202 => first_of(construct_near(tokens, at), grammar_mistake_at(tokens, at)),
         301 => only_instance(construct_at(tokens, at)),
         305 if is_connected_by_names(words) => {
-            Some(found_at(words, Construct::OutputExpression, words.word()))
+            Some(found_at(words, Construct::OutputExpression, words.word))
         }
-        305 if is(words.before(1), ".") => Some(found_mistake(words, Mistake::NoPort)),
+        305 if is(words.before, ".") => Some(found_mistake(words, Mistake::NoPort)),
         303 | 310 if is_dump_path(tokens, at) => { Some(found_at(words, Construct::DumpPath, &[])) }
         302 | 303 | 305 => declared_at(tokens, at, number),
         306 => first_of(range_at(tokens, at), declared_at(tokens, at, number)),
@@ -148,55 +156,41 @@ fn with_count<'a>(told: Found<'a>, all: &[Found<'_>]) -> Found<'a> {
 }
 
 // Each that was found but for the one that was told.
-fn put_others(
-    text: &mut Vec<u8>,
-    files: Files<'_>,
-    all: &[Found<'_>],
-    told: &Found<'_>,
-) -> Result<(), NoMemory> {
+fn put_others(text: &mut Text, files: Files<'_>, all: &[Found<'_>], told: &Found<'_>) {
     for found in all {
         if !is_same(found, told) {
-            put_found(text, files, found)?;
+            put_found(text, files, found);
         }
     }
-    Ok(())
+}
+
+// What is told, with how often it comes beside, and each other that was found.
+fn put_with_others(text: &mut Text, files: Files<'_>, told: Found<'_>, all: &[Found<'_>]) {
+    put_found(text, files, &with_count(told, all));
+    put_others(text, files, all, &told);
 }
 
 // A fault of the design for which no module, or none alone, is the top.
 fn put_modules<'a>(
     alloc: Global,
-    text: &mut Vec<u8>,
+    text: &mut Text,
     files: Files<'_>,
     told: Found<'a>,
     tokens: &'a Tokens<'a>,
     at: usize,
 ) -> Result<(), NoMemory> {
     let modules = modules_of(alloc, tokens)?;
-    if is(Words::new(tokens, at).before(1), "module") {
+    if is(Words::new(tokens, at).before, "module") {
         return put_several(alloc, text, files, told.place, &modules);
     }
-    let all = missing_modules(alloc, &modules)?;
-    put_found(text, files, &with_count(told, &all))?;
-    put_others(text, files, &all, &told)
-}
-
-// A fault of the design for a name that isn't declared: each other name that isn't, too.
-fn put_undeclared<'a>(
-    alloc: Global,
-    text: &mut Vec<u8>,
-    files: Files<'_>,
-    told: Found<'a>,
-    tokens: &'a Tokens<'a>,
-) -> Result<(), NoMemory> {
-    let all = undeclared_names(alloc, tokens)?;
-    put_found(text, files, &with_count(told, &all))?;
-    put_others(text, files, &all, &told)
+    put_with_others(text, files, told, &missing_modules(alloc, &modules)?);
+    Ok(())
 }
 
 // The messages of a text with words.
 fn put_by_words<'a>(
     alloc: Global,
-    text: &mut Vec<u8>,
+    text: &mut Text,
     files: Files<'_>,
     number: u16,
     place: Place,
@@ -205,7 +199,7 @@ fn put_by_words<'a>(
     let at = word_at(tokens, place);
     let broken = Found {
         what: What::Broken(number),
-        word: Words::new(tokens, at).word(),
+        word: Words::new(tokens, at).word,
         place,
         more: 0,
     };
@@ -213,10 +207,11 @@ fn put_by_words<'a>(
     let told = cause_of(tokens, at, number).unwrap_or(broken);
     match number_of(told.what) {
         301 => put_modules(alloc, text, files, told, tokens, at)?,
-        303 => put_undeclared(alloc, text, files, told, tokens)?,
-        _ => put_found(text, files, &with_count(told, &all))?,
+        303 => put_with_others(text, files, told, &undeclared_names(alloc, tokens)?),
+        _ => put_found(text, files, &with_count(told, &all)),
     }
-    put_others(text, files, &all, &told)
+    put_others(text, files, &all, &told);
+    Ok(())
 }
 
 // Whether the one stands before the other.
@@ -232,66 +227,60 @@ fn is_before(one: Place, other: Place) -> bool {
 
 // Those from this one on that stand before the place; the answer is the next one.
 fn put_before(
-    text: &mut Vec<u8>,
+    text: &mut Text,
     files: Files<'_>,
     all: &[Found<'_>],
     from: usize,
-    place: Option<Place>,
-) -> Result<usize, NoMemory> {
+    place: Place,
+) -> usize {
     for (at, found) in all.iter().enumerate() {
         if at >= from {
-            if let Some(place) = place {
-                if !is_before(found.place, place) {
-                    return Ok(at);
-                }
+            if !is_before(found.place, place) {
+                return at;
             }
-            put_found(text, files, found)?;
+            put_found(text, files, found);
         }
     }
-    Ok(all.len())
+    all.len()
 }
 
 // What was found by letters and by words; first what is refused, and then each in its place.
-fn put_both(
-    text: &mut Vec<u8>,
-    files: Files<'_>,
-    by_letters: &[Found<'_>],
-    by_words: &[Found<'_>],
-) -> Result<(), NoMemory> {
+fn put_both(text: &mut Text, files: Files<'_>, by_letters: &[Found<'_>], by_words: &[Found<'_>]) {
     let mut next = 0;
     if let Some(first) = by_letters.first() {
-        put_found(text, files, first)?;
+        put_found(text, files, first);
         next = 1;
     }
     for found in by_words {
-        next = put_before(text, files, by_letters, next, Some(found.place))?;
-        put_found(text, files, found)?;
+        next = put_before(text, files, by_letters, next, found.place);
+        put_found(text, files, found);
     }
-    put_before(text, files, by_letters, next, None)?;
-    Ok(())
+    put_before(text, files, by_letters, next, END);
 }
 
 // The constructs of the words of these files; none where they have no words.
 fn put_left(
     alloc: Global,
-    text: &mut Vec<u8>,
+    text: &mut Text,
     files: Files<'_>,
     mended: &Mended<'_>,
 ) -> Result<(), NoMemory> {
     let Ok(source) = expand(alloc, &mended.texts) else {
-        return put_both(text, files, &mended.found, &[]);
+        put_both(text, files, &mended.found, &[]);
+        return Ok(());
     };
     let Ok(words) = tokens(alloc, &source) else {
-        return put_both(text, files, &mended.found, &[]);
+        put_both(text, files, &mended.found, &[]);
+        return Ok(());
     };
-    let by_words = constructs(alloc, &words)?;
-    put_both(text, files, &mended.found, &by_words)
+    put_both(text, files, &mended.found, &constructs(alloc, &words)?);
+    Ok(())
 }
 
 // The messages of files that are refused by their letters: what is refused so, and the constructs of what is left.
 fn put_by_letters(
     alloc: Global,
-    text: &mut Vec<u8>,
+    text: &mut Text,
     files: Files<'_>,
     number: u16,
     place: Place,
@@ -311,7 +300,7 @@ fn put_by_letters(
 // The messages of a fault at this place.
 fn put_at(
     alloc: Global,
-    text: &mut Vec<u8>,
+    text: &mut Text,
     files: Files<'_>,
     number: u16,
     place: Place,
@@ -331,7 +320,7 @@ fn put_at(
 // The messages of files none of whose modules is the top.
 fn put_without_top(
     alloc: Global,
-    text: &mut Vec<u8>,
+    text: &mut Text,
     files: Files<'_>,
     tops: &[&str],
 ) -> Result<(), NoMemory> {
@@ -354,11 +343,11 @@ pub fn refusal_text(
     files: Files<'_>,
     tops: &[&str],
 ) -> Result<Vec<u8>, NoMemory> {
-    let mut text = Vec::new(alloc);
+    let mut text = Text::new(alloc);
     match place {
         Some(place) => put_at(alloc, &mut text, files, number, place)?,
         None if number == 301 => put_without_top(alloc, &mut text, files, tops)?,
         None => {}
     }
-    Ok(text)
+    text.finish()
 }

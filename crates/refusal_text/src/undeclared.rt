@@ -2,7 +2,7 @@
 
 use crate::find::{Found, What, keep};
 use crate::walk::{Group, Level, Opening, Walk};
-use crate::words::{Words, is, is_one_of};
+use crate::words::{Words, is, is_name, is_one_of};
 use basis::NoMemory;
 use std::alloc::Global;
 use vlex::{TokenKind, Tokens};
@@ -24,7 +24,7 @@ struct Declared<'a> {
 
 // The number of the module that the next word stands in.
 fn module_behind(words: Words<'_>, module: usize) -> usize {
-    if is(words.word(), "module") {
+    if is(words.word, "module") {
         module.saturating_add(1)
     } else {
         module
@@ -33,10 +33,10 @@ fn module_behind(words: Words<'_>, module: usize) -> usize {
 
 // Whether the word, in the head of a module, is declared there: a parameter before its value, or a port.
 fn is_in_head(words: Words<'_>, walk: Walk) -> bool {
-    let next = words.after(1);
+    let next = words.after;
     match walk.group {
         Group::Delay => is(next, "="),
-        _ => !walk.assigned && is_one_of(next, &[",", ")", "="]),
+        _ => !walk.assigned && is_one_of(next, ", ) ="),
     }
 }
 
@@ -54,21 +54,21 @@ pub(crate) fn declares(words: Words<'_>, walk: Walk) -> bool {
 
 /// Whether the word is the name of a block.
 pub(crate) fn names_block(words: Words<'_>) -> bool {
-    is(words.before(1), ":") && is(words.before(2), "begin")
+    is(words.before, ":") && is(words.second_before, "begin")
 }
 
 // Whether the word names a module, a block, a port or a parameter of an instance, or what is dumped; or stands where nothing looks.
 fn is_elsewhere(words: Words<'_>, walk: Walk) -> bool {
-    let names_module = is(words.before(1), "module") || (walk.level == Level::Items && walk.starts);
+    let names_module = is(words.before, "module") || (walk.level == Level::Items && walk.starts);
     let is_named = names_module || names_block(words);
     let is_free = walk.group == Group::Dump || walk.group == Group::Idle;
-    is_named || is(words.before(1), ".") || is_free
+    is_named || is(words.before, ".") || is_free
 }
 
 // Whether the word is a name, in a module.
-fn is_name(words: Words<'_>, walk: Walk) -> bool {
+fn is_inside(words: Words<'_>, walk: Walk) -> bool {
     let is_within = walk.level != Level::Outside && walk.level != Level::Passed;
-    words.is(TokenKind::Name) && words.is_name_after(0) && is_within
+    words.is(TokenKind::Name) && is_name(words.word) && is_within
 }
 
 // The names that are declared; none where there are too many.
@@ -83,7 +83,7 @@ fn declared_of<'a>(
         if all.len() > NAMES {
             return Ok(None);
         }
-        if is_name(words, walk) && !is_elsewhere(words, walk) && declares(words, walk) {
+        if is_inside(words, walk) && !is_elsewhere(words, walk) && declares(words, walk) {
             all.push(Declared {
                 module,
                 name: words.name(),
@@ -115,13 +115,13 @@ fn used_beside<'a>(
     let (mut walk, mut module) = (Walk::new(), 0usize);
     for at in 0..tokens.len() {
         let words = Words::new(tokens, at);
-        let is_used = is_name(words, walk) && !is_elsewhere(words, walk);
+        let is_used = is_inside(words, walk) && !is_elsewhere(words, walk);
         if is_used && !has(declared, module, words.name()) {
             keep(
                 &mut all,
                 Found {
                     what: What::Broken(UNDECLARED),
-                    word: words.word(),
+                    word: words.word,
                     place: words.place(),
                     more: 0,
                 },

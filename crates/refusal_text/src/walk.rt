@@ -69,196 +69,83 @@ pub(crate) struct Walk {
     depth: usize,
 }
 
-pub(crate) const NETS: [&str; 12] = [
-    "wire", "tri", "tri0", "tri1", "triand", "trior", "trireg", "uwire", "wand", "wor", "supply0",
-    "supply1",
-];
+pub(crate) const NETS: &str =
+    "wire tri tri0 tri1 triand trior trireg uwire wand wor supply0 supply1";
 
-pub(crate) const VARIABLES: [&str; 6] = ["reg", "integer", "event", "time", "real", "realtime"];
+pub(crate) const VARIABLES: &str = "reg integer event time real realtime";
 
-pub(crate) const TYPES: [&str; 7] = [
-    "logic", "bit", "int", "byte", "shortint", "longint", "string",
-];
+pub(crate) const TYPES: &str = "logic bit int byte shortint longint string";
 
 /// Those that have no x and no z.
-pub(crate) const TWO_VALUED: [&str; 5] = ["bit", "int", "byte", "shortint", "longint"];
+pub(crate) const TWO_VALUED: &str = "bit int byte shortint longint";
 
 /// With these processes of SystemVerilog begin.
-pub(crate) const ALWAYS: [&str; 3] = ["always_comb", "always_ff", "always_latch"];
+pub(crate) const ALWAYS: &str = "always_comb always_ff always_latch";
 
 // With these processes begin, those of SystemVerilog among them.
-const PROCESSES: [&str; 5] = [
-    "initial",
-    "always",
-    "always_comb",
-    "always_ff",
-    "always_latch",
-];
+const PROCESSES: &str = "initial always always_comb always_ff always_latch";
 
 /// The tasks that print.
-pub(crate) const PRINTS: [&str; 16] = [
-    "$display",
-    "$displayb",
-    "$displayo",
-    "$displayh",
-    "$write",
-    "$writeb",
-    "$writeo",
-    "$writeh",
-    "$strobe",
-    "$strobeb",
-    "$strobeo",
-    "$strobeh",
-    "$monitor",
-    "$monitorb",
-    "$monitoro",
-    "$monitorh",
-];
+pub(crate) const PRINTS: &str =
+    "$display $displayb $displayo $displayh $write $writeb $writeo $writeh $strobe $strobeb $strobeo $strobeh $monitor \
+    $monitorb $monitoro $monitorh";
 
 /// The tasks that have no effect.
-pub(crate) const IDLES: [&str; 21] = [
-    "$fopen",
-    "$fclose",
-    "$fflush",
-    "$fdisplay",
-    "$fdisplayb",
-    "$fdisplayo",
-    "$fdisplayh",
-    "$fwrite",
-    "$fwriteb",
-    "$fwriteo",
-    "$fwriteh",
-    "$fstrobe",
-    "$fstrobeb",
-    "$fstrobeo",
-    "$fstrobeh",
-    "$fmonitor",
-    "$fmonitorb",
-    "$fmonitoro",
-    "$fmonitorh",
-    "$timeformat",
-    "$printtimescale",
-];
-
-// Names of tasks that print; a letter for the radix may follow.
-const PRINT_NAMES: [&str; 4] = ["display", "write", "strobe", "monitor"];
+pub(crate) const IDLES: &str =
+    "$fopen $fclose $fflush $fdisplay $fdisplayb $fdisplayo $fdisplayh $fwrite $fwriteb $fwriteo $fwriteh $fstrobe \
+    $fstrobeb $fstrobeo $fstrobeh $fmonitor $fmonitorb $fmonitoro $fmonitorh $timeformat $printtimescale";
 
 // Behind these, parentheses have a statement after them.
-const CONDITIONS: [&str; 8] = [
-    "if", "while", "for", "repeat", "wait", "case", "casez", "casex",
-];
+const CONDITIONS: &str = "if while for repeat wait case casez casex";
 
-const BLOCKS: [&str; 5] = ["begin", "fork", "case", "casez", "casex"];
+const BLOCKS: &str = "begin fork case casez casex";
 
-const BLOCK_ENDS: [&str; 5] = ["end", "join", "endcase", "join_any", "join_none"];
+const BLOCK_ENDS: &str = "end join endcase join_any join_none";
 
 // Behind these `fork` begins no block.
-const WAITS: [&str; 2] = ["wait", "disable"];
+const WAITS: &str = "wait disable";
 
-const ROUTINE_ENDS: [&str; 2] = ["endfunction", "endtask"];
+const ROUTINE_ENDS: &str = "endfunction endtask";
 
 // These stand in no brackets: where some are open, one was forgotten.
-const UNBRACKETED: [&str; 16] = [
-    "module",
-    "endmodule",
-    "initial",
-    "always",
-    "begin",
-    "end",
-    "else",
-    "fork",
-    "join",
-    "case",
-    "endcase",
-    "function",
-    "endfunction",
-    "task",
-    "endtask",
-    "endgenerate",
-];
+const UNBRACKETED: &str =
+    "module endmodule initial always begin end else fork join case endcase function endfunction task endtask \
+    endgenerate";
 
 // These begin an item wherever they stand.
-const ITEMS: [&str; 7] = [
-    "initial",
-    "always",
-    "function",
-    "task",
-    "generate",
-    "endgenerate",
-    "specify",
-];
+const ITEMS: &str = "initial always function task generate endgenerate specify";
 
 // Behind these items an item begins.
-const ITEM_ENDS: [&str; 5] = ["end", "else", "endcase", "endgenerate", "generate"];
+const ITEM_ENDS: &str = "end else endcase endgenerate generate";
 
-const PASSED: [&str; 7] = [
-    "primitive",
-    "config",
-    "table",
-    "package",
-    "interface",
-    "program",
-    "class",
-];
+const PASSED: &str = "primitive config table package interface program class";
 
 // These are passed over among items.
-const PASSED_ITEMS: [&str; 5] = ["class", "property", "sequence", "clocking", "covergroup"];
+const PASSED_ITEMS: &str = "class property sequence clocking covergroup";
 
 // Behind the name of one of these.
-const PASSED_HEADS: [&str; 4] = [";", "@", "#", "extends"];
+const PASSED_HEADS: &str = "; @ # extends";
 
-const PASSED_ENDS: [&str; 12] = [
-    "endprimitive",
-    "endconfig",
-    "endtable",
-    "endpackage",
-    "endinterface",
-    "endprogram",
-    "endclass",
-    "endspecify",
-    "endproperty",
-    "endsequence",
-    "endclocking",
-    "endgroup",
-];
+const PASSED_ENDS: &str =
+    "endprimitive endconfig endtable endpackage endinterface endprogram endclass endspecify endproperty endsequence \
+    endclocking endgroup";
 
 // Before these `final` begins a process.
-const FINAL_STATEMENTS: [&str; 6] = ["begin", "if", "for", "case", "repeat", "while"];
-
-// Whether a letter for the radix, or nothing, stands behind the name.
-fn is_name_with_radix(word: &[u8], name: &str) -> bool {
-    match word.strip_prefix(name.as_bytes()) {
-        None => false,
-        Some(rest) => rest.is_empty() || is_one_of(rest, &["b", "o", "h"]),
-    }
-}
-
-// Whether the word is a task that prints.
-fn is_print(word: &[u8]) -> bool {
-    let Some(name) = word.strip_prefix(b"$") else {
-        return false;
-    };
-    for one in &PRINT_NAMES {
-        if is_name_with_radix(name, one) {
-            return true;
-        }
-    }
-    false
-}
+const FINAL_STATEMENTS: &str = "begin if for case repeat while";
 
 // What the brackets that this word opens stand behind.
 fn group_of(words: Words<'_>) -> Group {
-    let before = words.before(1);
-    if !is(words.word(), "(") {
+    let before = words.before;
+    if !is(words.word, "(") {
         return Group::Plain;
     }
     match before {
-        word if is(word, "#") => Group::Delay,
-        word if is(word, "@") => Group::Event,
+        b"#" => Group::Delay,
+        b"@" => Group::Event,
         word if is(word, "$dumpvars") => Group::Dump,
-        word if is_one_of(word, &CONDITIONS) => Group::Condition,
-        word if is_print(word) => Group::Print,
-        word if is_one_of(word, &IDLES) => Group::Idle,
+        word if is_one_of(word, CONDITIONS) => Group::Condition,
+        word if is_one_of(word, PRINTS) => Group::Print,
+        word if is_one_of(word, IDLES) => Group::Idle,
         word if word.starts_with(b"$") => Group::System,
         _ => Group::Plain,
     }
@@ -266,55 +153,55 @@ fn group_of(words: Words<'_>) -> Group {
 
 // What the item that this word begins is.
 fn opening_of(words: Words<'_>) -> Opening {
-    match words.word() {
-        word if is_one_of(word, &VARIABLES) => Opening::Variable,
-        word if is_one_of(word, &NETS) => Opening::Net,
-        word if is_one_of(word, &["input", "output", "inout"]) => Opening::Port,
-        word if is_one_of(word, &["parameter", "localparam"]) => Opening::Parameter,
+    match words.word {
+        word if is_one_of(word, VARIABLES) => Opening::Variable,
+        word if is_one_of(word, NETS) => Opening::Net,
+        word if is_one_of(word, "input output inout") => Opening::Port,
+        word if is_one_of(word, "parameter localparam") => Opening::Parameter,
         word if is(word, "assign") => Opening::Assign,
         word if is(word, "defparam") => Opening::Defparam,
         _ if is_type(words) => Opening::Variable,
-        _ if words.is_name_after(0) => Opening::Instance,
+        _ if is_name(words.word) => Opening::Instance,
         _ => Opening::Other,
     }
 }
 
 // Whether what is behind a type is declared: a name that no parentheses follow, a sign, or a range and a name.
 fn is_declared(words: Words<'_>) -> bool {
-    let next = words.after(1);
+    let next = words.after;
     if is_name(next) {
-        return !is_one_of(words.after(2), &["(", "#"]);
+        return !is_one_of(words.second_after, "( #");
     }
     let is_sized = is(next, "[") && is_name(words.next().behind_brackets());
-    is_sized || is_one_of(next, &["signed", "unsigned"])
+    is_sized || is_one_of(next, "signed unsigned")
 }
 
 /// Whether the word is a type of SystemVerilog, and no other name.
 pub(crate) fn is_type(words: Words<'_>) -> bool {
-    is_one_of(words.word(), &TYPES) && is_declared(words)
+    is_one_of(words.word, TYPES) && is_declared(words)
 }
 
 /// Whether the word begins the final statements of SystemVerilog.
 pub(crate) fn is_final(words: Words<'_>) -> bool {
-    let next = words.after(1);
-    is(words.word(), "final") && (next.starts_with(b"$") || is_one_of(next, &FINAL_STATEMENTS))
+    let next = words.after;
+    is(words.word, "final") && (next.starts_with(b"$") || is_one_of(next, FINAL_STATEMENTS))
 }
 
 // Whether the word begins the clocking block that a module has by default.
 fn is_default_clocking(words: Words<'_>) -> bool {
-    let is_default = is(words.word(), "default") && is(words.after(1), "clocking");
-    is_default && (is(words.after(2), "@") || is(words.after(3), "@"))
+    let is_default = is(words.word, "default") && is(words.after, "clocking");
+    is_default && (is(words.second_after, "@") || is(words.word_after(3), "@"))
 }
 
 /// Whether the word begins an item of SystemVerilog that has rules of its own.
 pub(crate) fn passes_over(words: Words<'_>) -> bool {
-    let is_named = is_one_of(words.word(), &PASSED_ITEMS) && words.is_name_after(1);
-    (is_named && is_one_of(words.after(2), &PASSED_HEADS)) || is_default_clocking(words)
+    let is_named = is_one_of(words.word, PASSED_ITEMS) && is_name(words.after);
+    (is_named && is_one_of(words.second_after, PASSED_HEADS)) || is_default_clocking(words)
 }
 
 // Whether the colon is one of two, as in the path of a name in a package.
 fn is_of_path(words: Words<'_>) -> bool {
-    is(words.after(1), ":") || is(words.before(1), ":")
+    is(words.after, ":") || is(words.before, ":")
 }
 
 impl Walk {
@@ -359,13 +246,18 @@ impl Walk {
         self.level == Level::Statement || (self.level == Level::Routine && self.depth > 0)
     }
 
+    /// Whether the word stands in a task or a function.
+    pub(crate) fn is_in_routine(&self) -> bool {
+        self.level == Level::RoutineHead || self.level == Level::Routine
+    }
+
     /// Where the word after this one stands.
     pub(crate) fn after(&self, words: Words<'_>) -> Walk {
-        let word = words.word();
+        let word = words.word;
         if self.attribute {
             return self.in_attribute(words);
         }
-        if is_one_of(word, &["module", "macromodule"]) {
+        if is_one_of(word, "module macromodule") {
             return self.at(Level::Head);
         }
         if is(word, "endmodule") {
@@ -383,7 +275,7 @@ impl Walk {
     // In an attribute.
     fn in_attribute(&self, words: Words<'_>) -> Walk {
         let mut next = *self;
-        if is(words.word(), ")") && is(words.before(1), "*") {
+        if is(words.word, ")") && is(words.before, "*") {
             next.attribute = false;
         }
         next
@@ -391,7 +283,7 @@ impl Walk {
 
     // In what is passed over.
     fn after_word(&self, word: &[u8]) -> Walk {
-        if !is_one_of(word, &PASSED_ENDS) {
+        if !is_one_of(word, PASSED_ENDS) {
             return *self;
         }
         if self.within {
@@ -409,10 +301,10 @@ impl Walk {
 
     /// Whether the word begins an attribute.
     pub(crate) fn begins_attribute(&self, words: Words<'_>) -> bool {
-        is(words.word(), "(")
-            && is(words.after(1), "*")
-            && !is(words.after(2), ")")
-            && !is(words.before(1), "@")
+        is(words.word, "(")
+            && is(words.after, "*")
+            && !is(words.second_after, ")")
+            && !is(words.before, "@")
     }
 
     // Between modules.
@@ -421,7 +313,7 @@ impl Walk {
         if self.begins_attribute(words) {
             next.attribute = true;
         }
-        if is_one_of(words.word(), &PASSED) {
+        if is_one_of(words.word, PASSED) {
             next.level = Level::Passed;
         }
         next
@@ -429,15 +321,15 @@ impl Walk {
 
     // In a module.
     fn inside(&self, words: Words<'_>) -> Walk {
-        match words.word() {
+        match words.word {
             _ if self.begins_attribute(words) => {
                 let mut next = *self;
                 next.attribute = true;
                 next
             }
-            word if is_one_of(word, &["(", "[", "{"]) => self.after_opening(words),
-            word if is_one_of(word, &[")", "]", "}"]) => self.after_closing(),
-            word if self.open > 0 && !is_one_of(word, &UNBRACKETED) => self.in_brackets(words),
+            b"(" | b"[" | b"{" => self.after_opening(words),
+            b")" | b"]" | b"}" => self.after_closing(),
+            word if self.open > 0 && !is_one_of(word, UNBRACKETED) => self.in_brackets(words),
             _ => self.along(words),
         }
     }
@@ -451,7 +343,7 @@ impl Walk {
             next.group = group_of(words);
         }
         next.told = self.open > 0 && (self.told || self.group == Group::Event);
-        if is(words.word(), "(") && words.before(1).starts_with(b"$") {
+        if is(words.word, "(") && words.before.starts_with(b"$") {
             next.call = next.open;
         }
         next
@@ -473,9 +365,9 @@ impl Walk {
 
     // Between brackets.
     fn in_brackets(&self, words: Words<'_>) -> Walk {
-        let word = words.word();
+        let word = words.word;
         let mut next = *self;
-        if self.open == 1 && is_one_of(word, &[",", "or"]) {
+        if self.open == 1 && is_one_of(word, ", or") {
             next.told = false;
         } else if is(word, ":") || self.group == Group::Event {
             next.told = self.told || words.is(TokenKind::Symbol) || is(word, "iff");
@@ -492,8 +384,8 @@ impl Walk {
     // Whether the value of a port has begun behind the word, in a list of ports.
     fn assigned_after(&self, word: &[u8]) -> bool {
         match word {
-            word if is(word, "=") => true,
-            word if is(word, ",") => false,
+            b"=" => true,
+            b"," => false,
             _ => self.assigned,
         }
     }
@@ -501,21 +393,21 @@ impl Walk {
     // How many `?` wait for their `:` behind the word.
     fn chosen_after(&self, word: &[u8]) -> usize {
         match word {
-            word if is(word, "?") => self.chosen.saturating_add(1),
-            word if is(word, ":") => self.chosen.saturating_sub(1),
+            b"?" => self.chosen.saturating_add(1),
+            b":" => self.chosen.saturating_sub(1),
             _ => self.chosen,
         }
     }
 
     // Outside of brackets.
     fn along(&self, words: Words<'_>) -> Walk {
-        let word = words.word();
+        let word = words.word;
         match self.level {
             Level::Head if is(word, ";") => self.at(Level::Items),
             Level::RoutineHead if is(word, ";") => self.at(Level::Routine),
-            Level::Routine if is_one_of(word, &ROUTINE_ENDS) => self.at(Level::Items),
+            Level::Routine if is_one_of(word, ROUTINE_ENDS) => self.at(Level::Items),
             Level::Items => self.item(words),
-            Level::Statement if is_one_of(word, &ITEMS) => self.item_at(words),
+            Level::Statement if is_one_of(word, ITEMS) => self.item_at(words),
             Level::Statement | Level::Routine => self.statement(words),
             _ => *self,
         }
@@ -523,24 +415,25 @@ impl Walk {
 
     // At the first word of an item.
     fn item_at(&self, words: Words<'_>) -> Walk {
-        let word = words.word();
+        let word = words.word;
         let mut next = self.at(Level::Items);
         next.depth = 0;
         match word {
-            word if is_one_of(word, &PROCESSES) => next.at(Level::Statement),
+            word if is_one_of(word, PROCESSES) => next.at(Level::Statement),
             _ if is_final(words) => next.at(Level::Statement),
             _ if passes_over(words) => next.passing(),
-            word if is_one_of(word, &["function", "task"]) => next.at(Level::RoutineHead),
+            word if is_one_of(word, "function task") => next.at(Level::RoutineHead),
             word if is(word, "specify") => next.passing(),
-            word if is_one_of(word, &["generate", "endgenerate"]) => {
+            word if is_one_of(word, "generate endgenerate") => {
                 next.generates = is(word, "generate");
                 next
             }
             word if is(word, "begin") => {
-                next.starts = !is(words.after(1), ":");
+                next.starts = !is(words.after, ":");
                 next
             }
-            word if is_one_of(word, &ITEM_ENDS) || is(word, ";") => next,
+            b";" => next,
+            word if is_one_of(word, ITEM_ENDS) => next,
             _ => {
                 next.opening = opening_of(words);
                 next.starts = false;
@@ -551,15 +444,15 @@ impl Walk {
 
     // Among items.
     fn item(&self, words: Words<'_>) -> Walk {
-        let word = words.word();
-        if self.starts || is_one_of(word, &ITEMS) || is_one_of(word, &ITEM_ENDS) {
+        let word = words.word;
+        if self.starts || is_one_of(word, ITEMS) || is_one_of(word, ITEM_ENDS) {
             return self.item_at(words);
         }
         if is(word, ";") {
             return self.at(Level::Items);
         }
-        let names_block = is(words.before(1), ":") && is(words.before(2), "begin");
-        let labels = is(word, ":") && !is(words.before(1), "begin");
+        let names_block = is(words.before, ":") && is(words.second_before, "begin");
+        let labels = is(word, ":") && !is(words.before, "begin");
         let holds_items = self.opening == Opening::Other || self.opening == Opening::Instance;
         if holds_items && (names_block || labels) {
             return self.at(Level::Items);
@@ -571,12 +464,12 @@ impl Walk {
     fn with_mark(&self, word: &[u8]) -> Walk {
         let mut next = *self;
         match word {
-            word if is_one_of(word, &["=", "<="]) => next.assigned = true,
-            word if is(word, ",") && self.opening != Opening::Other => {
+            word if is_one_of(word, "= <=") => next.assigned = true,
+            b"," if self.opening != Opening::Other => {
                 next.assigned = false;
                 next.told = false;
             }
-            word if is(word, ":") => next.told = true,
+            b":" => next.told = true,
             _ => {}
         }
         next.chosen = self.chosen_after(word);
@@ -585,7 +478,7 @@ impl Walk {
 
     // Where a statement ended: among items, if it was the last one.
     fn after_end(&self, words: Words<'_>) -> Walk {
-        if self.level == Level::Statement && self.depth == 0 && !is(words.after(1), "else") {
+        if self.level == Level::Statement && self.depth == 0 && !is(words.after, "else") {
             return self.at(Level::Items);
         }
         self.at(self.level)
@@ -593,18 +486,18 @@ impl Walk {
 
     // In statements.
     fn statement(&self, words: Words<'_>) -> Walk {
-        let word = words.word();
+        let word = words.word;
         match word {
-            word if is(word, ";") => self.after_end(words),
-            word if is_one_of(word, &BLOCKS) && !is_one_of(words.before(1), &WAITS) => {
+            b";" => self.after_end(words),
+            word if is_one_of(word, BLOCKS) && !is_one_of(words.before, WAITS) => {
                 self.at_depth(self.depth.saturating_add(1))
             }
-            word if is_one_of(word, &BLOCK_ENDS) => {
+            word if is_one_of(word, BLOCK_ENDS) => {
                 self.at_depth(self.depth.saturating_sub(1)).after_end(words)
             }
-            word if is(word, ":") && self.chosen == 0 && !is_of_path(words) => self.at(self.level),
+            b":" if self.chosen == 0 && !is_of_path(words) => self.at(self.level),
             word if is(word, "else") => self.at(self.level),
-            word if is_one_of(word, &VARIABLES) || is_type(words) => {
+            word if is_one_of(word, VARIABLES) || is_type(words) => {
                 let mut next = self.at(self.level);
                 next.opening = Opening::Variable;
                 next

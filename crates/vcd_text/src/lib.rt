@@ -1,5 +1,5 @@
 // Histories to the text of a value change dump (IEEE 1364-2005, clause 18). In go a design and what its run shows;
-// out come bytes in a byte sink (a writer, a count, a text that is held, or one to compare with), as the run goes or at once,
+// out come bytes in a byte sink (a writer, a count, a text that is held, or one to compare with), as the run goes,
 // and a fault where they don't.
 // The law: the bytes are those of specs/DumpText.antt, and after a fault a prefix of them.
 #![tactic(auto)]
@@ -12,7 +12,6 @@ mod progress;
 mod selected;
 mod sink;
 mod values;
-mod write;
 
 pub use byte_sinks::{
     ByteSink, Counter, Expected, Full, HELD_BYTES, HeldText, Metered, Never, TooMany, WriteFault,
@@ -21,4 +20,3 @@ pub use byte_sinks::{
 pub use law::{dumps_are_readable, sinks_complete_dumps};
 pub use progress::Progress;
 pub use sink::DumpSink;
-pub use write::write_vcd;

@@ -9,6 +9,5 @@ mod KeptLists
 mod KeptParts
 mod KeptTexts
 mod RefusalLaws
-mod LongestLaws
 mod DeepWords
 mod DeepSources

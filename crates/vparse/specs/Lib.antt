@@ -5,4 +5,3 @@ pub mod Laws
 pub mod TextReaders
 pub mod ModuleGives
 pub mod Refusals
-pub mod LongestExpression

@@ -4,7 +4,6 @@
 
 mod connections;
 mod declarations;
-mod expressions;
 mod fault;
 mod heads;
 pub mod law;
@@ -17,6 +16,6 @@ pub mod profile;
 mod texts;
 mod types;
 
-pub use expressions::parse_expr;
 pub use fault::SyntaxFault;
-pub use texts::parse;
+pub use texts::{parse, stands_outside};
+pub use types::LEVELS;

@@ -62,8 +62,8 @@ fn source<F: Fn(&mut Cursor) -> Result<Statement, OrMemory<Stop>>>(
     Ok(modules)
 }
 
-// Whether the word of this token stands outside the profile.
-pub(crate) fn stands_outside(tokens: &Tokens<'_>, at: usize) -> bool
+/// Whether the word of the token of this number, from 0, stands outside the profile; false behind the last token.
+pub fn stands_outside(tokens: &Tokens<'_>, at: usize) -> bool
     ensures { result ≡ is_any_outside (slice_get (words_of tokens.now) at) }
 {
     if at < tokens.len() {

@@ -5,8 +5,10 @@ ghost use Rattle.explore.specs.Ranked.{TellsOfEntries, TellsOfSteps, TellsOfStop
 ghost use Rattle.vmachine.specs.Machines.{machine_rules};
 ghost use Rattle.vsrc.specs.Source.{file_bytes};
 ghost use Rattle.race_groups.specs.Found.{ClosesAllEnds, ClosesTimeOfRun, EachGroup, FirstsAreInTime, HasFirstDifference, HasItsCause};
-ghost use Rattle.race_groups.specs.Found.{HasLogOfFirst, LacksOnlyNoCause, TellsOfAll, TellsOfAllThroughout, TellsOfCuts};
-ghost use Rattle.race_groups.specs.Found.{TellsOfCutsThroughout, TellsOfNone, TellsOfNoneThroughout};
+ghost use Rattle.race_groups.specs.Found.{HasLogOfFirst, IsCutValues, LacksOnlyNoCause, TellsOfAll, TellsOfAllThroughout};
+ghost use Rattle.race_groups.specs.Found.{TellsOfCutValues, TellsOfCutValuesThroughout, TellsOfCuts, TellsOfCutsThroughout};
+ghost use Rattle.race_groups.specs.Found.{TellsOfEnds, TellsOfEndsThroughout, TellsOfNoEnd, TellsOfNoEndThroughout};
+ghost use Rattle.race_groups.specs.Found.{TellsOfNone, TellsOfNoneThroughout};
 ghost use Rattle.vrace.specs.ActionPlaces.{ArePlacedInFiles};
 ghost use Rattle.vrace.specs.Request.{request_of};
 ghost use Rattle.vrace.specs.Explores.{IsSearched};
@@ -43,8 +45,10 @@ impl Drop for FoundRaces {
 ///
 /// Each difference told is one, and each cause is that of its log. Wherever two such runs differ from the time `scope.from` on, up to the
 /// time `races.search.closed`, a group counts the difference; where the search is exhausted, at every time. If memory wasn't refused
-/// meanwhile, groups count nothing else, and nothing twice. Where none is told, none differ. Where it isn't said that a run was cut by
-/// the time limit, so none was, up to that time. `Cut(Entries)` is said only where there are so many entries, `Cut(Steps)` only where a
+/// meanwhile, groups count nothing else, and nothing twice. Where none is told, none differ. Two runs that end at different times, by
+/// different causes, or with other lines in a slot that `$finish` or `$stop` cuts, are told in a group of their own, whatever other groups
+/// there are; where only the values differ that such a slot leaves, `races.cut_ends` has two of them. Where it isn't said that a run was
+/// cut by the time limit, so none was, up to that time. `Cut(Entries)` is said only where there are so many entries, `Cut(Steps)` only where a
 /// run takes more steps.
 ///
 /// Refusals, in the order in which they are looked for: E904 where the files together are longer than 16,777,216 bytes; E110 to
@@ -73,9 +77,20 @@ pub fn find_races_in<B: Budget>(
         TellsOfNone found.machine options.now.limits scope.now found.races) }
     ensures none_exhausted { IfOk result (λ found.
         TellsOfNoneThroughout found.machine options.now.limits scope.now found.races) }
+    ensures ends { IfOk result (λ found. TellsOfEnds found.machine options.now.limits scope.now found.races) }
+    ensures ends_exhausted { IfOk result (λ found.
+        TellsOfEndsThroughout found.machine options.now.limits scope.now found.races) }
+    ensures cut_ends { IfOk result (λ found. IsCutValues found.machine options.now.limits found.races) }
+    ensures no_cut_ends { IfOk result (λ found.
+        TellsOfCutValues found.machine options.now.limits scope.now found.races) }
+    ensures no_cut_ends_exhausted { IfOk result (λ found.
+        TellsOfCutValuesThroughout found.machine options.now.limits scope.now found.races) }
     ensures in_time { IfOk result (λ found. FirstsAreInTime found.machine scope.now found.races) }
     ensures closed { IfOk result (λ found. ClosesAllEnds found.machine options.now.limits found.races) }
     ensures closed_time { IfOk result (λ found. ClosesTimeOfRun found.machine options.now.limits found.races) }
+    ensures no_end { IfOk result (λ found. TellsOfNoEnd found.machine options.now.limits found.races) }
+    ensures no_end_exhausted { IfOk result (λ found.
+        TellsOfNoEndThroughout found.machine options.now.limits found.races) }
     ensures cuts { IfOk result (λ found. TellsOfCuts found.machine options.now.limits found.races) }
     ensures cuts_exhausted { IfOk result (λ found.
         TellsOfCutsThroughout found.machine options.now.limits found.races) }

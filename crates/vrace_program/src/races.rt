@@ -1,27 +1,35 @@
 // The races of files, told to people and to programs.
 
-use crate::meter::Meter;
-use crate::outputs::{OVER_ANOTHER, OVER_WAIVERS, Outputs, are_one, is_another};
-use crate::refusals::with_words;
-use crate::times::{Bounds, Times};
-use crate::{Stop, finish, options_for, read_file, texts};
 use basis::NoMemory;
 use byte_sinks::Metered;
-use command_line::{Allowance, RaceWords, Request, Search, VERSION};
-use race_facts::Sources;
-use race_groups::{Group, Races, Scope};
+use clap::ArgMatches;
+use command_line::{
+    Allowance, RaceWords, Request, Search, VERSION, has_dashed_top, has_dashed_waivers,
+    has_one_output_for_two, has_opposites, has_output_over_file, has_two_dumps, race_request_of,
+    race_search_of, race_words_of,
+};
+use finding_text::Sources;
+use output_files::{
+    ONE_FOR_TWO, OVER_ANOTHER, OVER_SOURCE, OVER_WAIVERS, Outputs, Over, are_one, is_another,
+};
+use program_base::{DASHED, Stop, options_for, read_file, texts, with_words, write_out};
+use race_facts::{cut_values_of, findings_of, places_of, reach_of, setting_of};
+use race_findings::{Finding, Reach};
+use race_groups::Scope;
 use race_page::{Page, TopRaces};
 use race_text::{
-    Findings, Format, NAMED, SearchSummary, Tops, Waived, WaiverLines, groups_texts, summary_text,
+    Findings, Format, KEPT, SearchSummary, Tops, WaiverLines, races_texts, summary_text,
 };
+use race_waivers::Waived;
 use race_words::{Waiver, WaiverFault, WaiverScope, read_waivers};
 use run_pair::write_pair;
+use search_meter::Meter;
+use shown_text::shown_name;
 use std::alloc::Global;
-use std::io;
-use std::io::{BufWriter, Write};
 use std::process::ExitCode;
-use std::rt::Clock;
-use vrace::{Budget, Fault, FoundRaces, Options, RankedStatus, Spent, find_races_in};
+use vmachine::Machine;
+use vrace::{Budget, Fault, FoundRaces, Options, Spent, find_races_in};
+use written_times::{Bounds, TimeFault, Times};
 
 // What a search may take of which nothing is said.
 const NO_LIMIT: Allowance = Allowance {
@@ -30,8 +38,8 @@ const NO_LIMIT: Allowance = Allowance {
     progress: false,
 };
 
-/// How what was found is written, by the value of `--format`.
-pub(crate) fn format_of(word: Option<&str>) -> Format {
+// How what was found is written, by the value of `--format`.
+fn format_of(word: Option<&str>) -> Format {
     match word {
         Some("json") => Format::Json,
         Some("sarif") => Format::Sarif,
@@ -59,13 +67,13 @@ enum Verdict {
 }
 
 // What a search says.
-fn verdict_of(races: &Races, waived: &Waived) -> Verdict {
+fn verdict_of(reach: &Reach, waived: &Waived) -> Verdict {
     if !waived.are_all() {
         Verdict::Raced
-    } else if races.search.status == RankedStatus::Exhausted && !races.cut_runs {
-        Verdict::Clean
-    } else {
+    } else if reach.is_cut() {
         Verdict::Unseen
+    } else {
+        Verdict::Clean
     }
 }
 
@@ -91,12 +99,12 @@ impl Verdict {
 }
 
 // What is told beside the races.
-fn summary_of<R: Clock + Eprint>(
+fn summary_of(
     options: &Options<'_>,
     scope: &Scope,
     all: bool,
     is_top_named: bool,
-    meter: &Meter<'_, R>,
+    meter: &Meter<'_>,
 ) -> SearchSummary {
     SearchSummary {
         departures: options.limits.depart,
@@ -144,19 +152,9 @@ fn scope_of(all: bool, waivers: &[Waiver<'_>], from: u64) -> Scope {
         names: if all || some_asks_for_names(waivers) {
             usize::MAX
         } else {
-            NAMED
+            KEPT
         },
     }
-}
-
-// Which of the races are waived.
-fn waived_of(
-    alloc: Global,
-    found: &FoundRaces,
-    sources: &Sources<'_>,
-    waivers: &[Waiver<'_>],
-) -> Result<Waived, NoMemory> {
-    Waived::new(alloc, waivers, &found.machine, sources, &found.races.groups)
 }
 
 // How many steps a run may have, as far as a log counts them.
@@ -180,11 +178,12 @@ struct Asked<'a> {
     steps: u32,
 }
 
-// What was told so far: of each top module, the file of waivers, and the worst that was found.
+// What was told so far: of each top module, the file of waivers, how many names each waiver waives, and the worst that was found.
 #[derive(Drop)]
 struct Answer<'w> {
     tops: Tops<'w>,
     waivers: WaiverLines,
+    names: Vec<u64>,
     page: Option<Page>,
     dump: Option<Vec<u8>>,
     verdict: Verdict,
@@ -196,6 +195,24 @@ fn no_page(alloc: Global, words: &RaceWords<'_>, steps: u32) -> Result<Option<Pa
         None => Ok(None),
         Some(_) => Ok(Some(Page::new(alloc, steps)?)),
     }
+}
+
+// Of how many names a waiver waives is told, where it waives more than so many.
+const MOST_NAMES: u64 = 100;
+
+// Of each waiver how many names it waives: in the top modules so far, and in one more.
+fn add_names(
+    alloc: Global,
+    waivers: &[Waiver<'_>],
+    names: &[u64],
+    waived: &Waived,
+) -> Result<Vec<u64>, NoMemory> {
+    let mut sums = Vec::new(alloc);
+    for (place, _) in waivers.iter().enumerate() {
+        let before = names.get(place).copied().unwrap_or(0);
+        sums.push(before.saturating_add(waived.name_count(place)))?;
+    }
+    Ok(sums)
 }
 
 // Nothing.
@@ -213,6 +230,7 @@ fn no_answer<'w>(
             waivers,
         ),
         waivers: WaiverLines::new(alloc),
+        names: Vec::new(alloc),
         page: no_page(alloc, words, steps)?,
         dump: None,
         verdict: Verdict::Clean,
@@ -220,24 +238,24 @@ fn no_answer<'w>(
 }
 
 // The first of the races that isn't waived.
-fn first_unwaived<'a>(findings: &Findings<'a>) -> Option<&'a Group> {
-    for (place, group) in findings.races.groups.iter().enumerate() {
+fn first_unwaived<'a>(findings: &Findings<'a>) -> Option<&'a Finding> {
+    for (place, finding) in findings.races.iter().enumerate() {
         if findings.waiver(place).is_none() {
-            return Some(group);
+            return Some(finding);
         }
     }
     None
 }
 
-// The dump of both runs of the group. A text that is held refuses for want of memory alone.
+// The dump of both runs of the race. A text that is held refuses for want of memory alone.
 fn dump_of(
     alloc: Global,
-    findings: &Findings<'_>,
-    group: &Group,
+    machine: &Machine,
+    finding: &Finding,
     steps: u32,
 ) -> Result<Vec<u8>, Stop> {
     let mut writer = Metered::new(Vec::new(alloc));
-    match write_pair(alloc, findings.machine, &group.log, steps, &mut writer) {
+    match write_pair(alloc, machine, &finding.log, steps, &mut writer) {
         Ok(()) => Ok(writer.into_inner()),
         Err(_) => Err(Stop::NoMemory),
     }
@@ -247,24 +265,31 @@ fn dump_of(
 fn put_dump(
     alloc: Global,
     answer: &mut Answer<'_>,
+    machine: &Machine,
     findings: &Findings<'_>,
     asked: &Asked<'_>,
 ) -> Result<(), Stop> {
     if asked.words.dump.is_none() || answer.dump.is_some() {
         return Ok(());
     }
-    if let Some(group) = first_unwaived(findings) {
-        answer.dump = Some(dump_of(alloc, findings, group, asked.steps)?);
+    if let Some(finding) = first_unwaived(findings) {
+        answer.dump = Some(dump_of(alloc, machine, finding, asked.steps)?);
     }
     Ok(())
 }
 
 // Puts what was found of a top module onto the page.
-fn put_page(alloc: Global, page: &mut Page, findings: &Findings<'_>) -> Result<(), NoMemory> {
+fn put_page(
+    alloc: Global,
+    page: &mut Page,
+    machine: &Machine,
+    findings: &Findings<'_>,
+) -> Result<(), NoMemory> {
     let summary = summary_text(alloc, findings)?;
-    let words = groups_texts(alloc, findings)?;
+    let words = races_texts(alloc, findings)?;
     page.tell(&TopRaces {
-        machine: findings.machine,
+        setting: findings.setting,
+        machine,
         sources: findings.sources,
         races: findings.races,
         summary: &summary,
@@ -276,13 +301,14 @@ fn put_page(alloc: Global, page: &mut Page, findings: &Findings<'_>) -> Result<(
 fn put_pictures(
     alloc: Global,
     answer: &mut Answer<'_>,
+    machine: &Machine,
     findings: &Findings<'_>,
     asked: &Asked<'_>,
 ) -> Result<(), Stop> {
     if let Some(page) = &mut answer.page {
-        put_page(alloc, page, findings)?;
+        put_page(alloc, page, machine, findings)?;
     }
-    put_dump(alloc, answer, findings, asked)
+    put_dump(alloc, answer, machine, findings, asked)
 }
 
 // Puts what was found of a top module.
@@ -295,71 +321,74 @@ fn put_findings(
     if words.write_waivers.is_some() {
         answer.waivers.waive(findings)?;
     }
-    let verdict = verdict_of(findings.races, findings.waived);
+    let verdict = verdict_of(findings.reach, findings.waived);
     answer.verdict = answer.verdict.worse(verdict);
     Ok(())
 }
 
+// Tells what was found of a top module: in the answer, on the page, and in the dump.
+fn tell_found(
+    alloc: Global,
+    asked: &Asked<'_>,
+    found: &FoundRaces,
+    summary: &SearchSummary,
+    answer: &mut Answer<'_>,
+) -> Result<(), Stop> {
+    let machine = &found.machine;
+    let setting = setting_of(machine);
+    let places = places_of(alloc, machine, &found.origins)?;
+    let races = findings_of(alloc, machine, &found.races, summary.from)?;
+    let cut_values = cut_values_of(alloc, machine, &found.races.cut_ends)?;
+    let reach = reach_of(machine, &found.races, summary.steps)?;
+    let sources = Sources {
+        names: asked.names,
+        texts: asked.texts,
+        places: &places,
+    };
+    let waived = Waived::new(alloc, asked.waivers, setting.design, &sources, &races)?;
+    answer.names = add_names(alloc, asked.waivers, &answer.names, &waived)?;
+    let findings = Findings {
+        setting,
+        sources: &sources,
+        races: &races,
+        cut_values: cut_values.as_ref(),
+        reach: &reach,
+        summary,
+        waivers: asked.waivers,
+        waived: &waived,
+    };
+    put_findings(answer, &findings, asked.words)?;
+    put_pictures(alloc, answer, machine, &findings, asked)
+}
+
 // Searches the top module, or the only one, and puts what was found.
-fn tell_top<R: Clock + Eprint>(
+fn tell_top(
     alloc: Global,
     asked: &Asked<'_>,
     top: Option<&str>,
-    meter: &mut Meter<'_, R>,
+    meter: &mut Meter<'_>,
     answer: &mut Answer<'_>,
 ) -> Result<(), Stop> {
     let words = asked.words;
     let options = options_for(asked.request, asked.search, top, asked.bounds.until)?;
     let scope = scope_of(words.all, asked.waivers, asked.bounds.from);
     let found = find_races_in(alloc, asked.texts, &options, &scope, meter)?;
-    let sources = Sources {
-        names: asked.names,
-        texts: asked.texts,
-        origins: &found.origins,
-    };
-    let waived = waived_of(alloc, &found, &sources, asked.waivers)?;
     let summary = summary_of(&options, &scope, words.all, top.is_some(), meter);
-    let findings = Findings {
-        machine: &found.machine,
-        sources: &sources,
-        races: &found.races,
-        summary: &summary,
-        waivers: asked.waivers,
-        waived: &waived,
-    };
-    put_findings(answer, &findings, words)?;
-    put_pictures(alloc, answer, &findings, asked)
+    tell_found(alloc, asked, &found, &summary, answer)
 }
 
 // Searches each top module on its own, each with all that a search may take.
-fn tell_tops<'w>(
-    rt: &HostRuntime,
-    asked: &Asked<'_>,
-    waivers: &'w [Waiver<'w>],
-) -> Result<Answer<'w>, Stop> {
+fn tell_tops(rt: &HostRuntime, asked: &Asked<'_>, answer: &mut Answer<'_>) -> Result<(), Stop> {
     let allowance = asked.search.allowance.unwrap_or(NO_LIMIT);
-    let mut answer = no_answer(rt.alloc(), asked.words, waivers, asked.steps)?;
     if asked.words.tops.is_empty() {
         let mut meter = Meter::new(rt, allowance);
-        tell_top(rt.alloc(), asked, None, &mut meter, &mut answer)?;
+        tell_top(rt.alloc(), asked, None, &mut meter, answer)?;
     }
     for top in &asked.words.tops {
         let mut meter = Meter::new(rt, allowance);
-        tell_top(rt.alloc(), asked, Some(*top), &mut meter, &mut answer)?;
+        tell_top(rt.alloc(), asked, Some(*top), &mut meter, answer)?;
     }
-    Ok(answer)
-}
-
-/// Writes the document to standard output.
-pub fn write_out(rt: &HostRuntime, text: &[u8]) -> Result<(), Stop> {
-    let Ok(buffered) = BufWriter::new(rt.alloc(), io::writer(rt)) else {
-        return Err(Stop::NoMemory);
-    };
-    let mut writer = Metered::new(buffered);
-    if writer.write_all(text).is_err() {
-        return Err(Stop::Refused(Fault::Write));
-    }
-    finish(&mut writer)
+    Ok(())
 }
 
 // The names of the files that are to be written: of waivers, of a page, of a dump.
@@ -367,7 +396,7 @@ fn named_outputs<'a>(alloc: Global, words: &RaceWords<'a>) -> Result<Outputs<'a>
     let mut outputs = Outputs::new(alloc);
     for name in [words.write_waivers, words.html, words.dump] {
         if let Some(name) = name {
-            outputs.put(name, None)?;
+            outputs.put(name, None, Over::Any)?;
         }
     }
     Ok(outputs)
@@ -400,7 +429,17 @@ fn try_files(rt: &HostRuntime, words: &RaceWords<'_>, files: &[&str]) -> Result<
     if is_over_another(rt, words) {
         return Err(Stop::Usage(OVER_ANOTHER));
     }
-    outputs.try_all(rt)
+    outputs.try_all(rt)?;
+    Ok(())
+}
+
+// What the dump may be written over.
+fn over_of(words: &RaceWords<'_>) -> Over {
+    if words.over_dumps_alone {
+        Over::OwnDumps
+    } else {
+        Over::Any
+    }
 }
 
 // The files that are to be written, with their texts. Where there is no dump, one that was written before goes, as it would be taken for
@@ -414,13 +453,13 @@ fn told_outputs<'a>(
 ) -> Result<Outputs<'a>, Stop> {
     let mut outputs = Outputs::new(alloc);
     if let Some(name) = words.write_waivers {
-        outputs.put(name, Some(waivers.text()?))?;
+        outputs.put(name, Some(waivers.text()?), Over::Any)?;
     }
     if let (Some(name), Some(page)) = (words.html, page) {
-        outputs.put(name, Some(page.document()?))?;
+        outputs.put(name, Some(page.document()?), Over::Any)?;
     }
     if let Some(name) = words.dump {
-        outputs.put(name, dump)?;
+        outputs.put(name, dump, over_of(words))?;
     }
     Ok(outputs)
 }
@@ -428,7 +467,10 @@ fn told_outputs<'a>(
 // Says that there is no dump, where one was asked for.
 fn say_undumped(rt: &HostRuntime, words: &RaceWords<'_>, is_dumped: bool) {
     if let Some(name) = words.dump {
-        if !is_dumped {
+        if is_dumped {
+            return;
+        }
+        if let Ok(name) = shown_name(rt.alloc(), name) {
             let _ = eprintln!(rt;
                 "no dump is written to {name}: there is no race that isn't waived"
             );
@@ -436,11 +478,41 @@ fn say_undumped(rt: &HostRuntime, words: &RaceWords<'_>, is_dumped: bool) {
     }
 }
 
+// Says of each waiver of many names how many it waives.
+fn say_wide(rt: &HostRuntime, file: &str, waivers: &[Waiver<'_>], names: &[u64]) {
+    for (place, waiver) in waivers.iter().enumerate() {
+        let (line, count) = (waiver.line, names.get(place).copied().unwrap_or(0));
+        if count > MOST_NAMES {
+            let _ = eprintln!(rt; "{file}:{line}: waives {count} names");
+        }
+    }
+}
+
+// The same, of the file of the waivers that were read.
+fn say_waived(rt: &HostRuntime, asked: &Asked<'_>, names: &[u64]) {
+    if let Some(file) = asked.words.waive {
+        if let Ok(file) = shown_name(rt.alloc(), file) {
+            say_wide(rt, file.as_str(), asked.waivers, names);
+        }
+    }
+}
+
+// The refusal where standard output fails, with what the files are now.
+fn unprinted(alloc: Global, outputs: &Outputs<'_>) -> Stop {
+    match outputs.unprinted_text(alloc) {
+        Ok(words) => Stop::Told(Fault::Write, words.into_bytes()),
+        Err(refused) => Stop::from(refused),
+    }
+}
+
 // Writes the document behind the files.
 fn write_document(rt: &HostRuntime, outputs: &Outputs<'_>, document: &[u8]) -> Result<(), Stop> {
     match write_out(rt, document) {
-        Err(Stop::Refused(Fault::Write)) => Err(outputs.unprinted(rt.alloc())),
-        done => done,
+        Ok(()) => Ok(()),
+        Err(stop) => Err(match stop.untold() {
+            Some(Fault::Write) => unprinted(rt.alloc(), outputs),
+            _ => stop,
+        }),
     }
 }
 
@@ -456,6 +528,7 @@ fn write_answer(
         page,
         dump,
         verdict,
+        ..
     } = answer;
     let document = tops.document(VERSION)?;
     let is_dumped = dump.is_some();
@@ -486,19 +559,30 @@ fn tell(
         bounds: times.bounds(rt.alloc(), texts)?,
         steps: steps_of(request),
     };
-    let answer = tell_tops(rt, &asked, waivers)?;
+    let mut answer = no_answer(rt.alloc(), words, waivers, asked.steps)?;
+    tell_tops(rt, &asked, &mut answer)?;
+    say_waived(rt, &asked, &answer.names);
     write_answer(rt, words, answer)
 }
 
-/// Tells the races of what is asked for on standard output; a refusal of the files is told in words.
-pub fn tell_races(
+// The times between which races are told. A word that is no time is E404.
+fn times_of(words: &RaceWords<'_>) -> Result<Times, Stop> {
+    match Times::new(words.until, words.from) {
+        Ok(times) => Ok(times),
+        Err(TimeFault::NoTime) => Err(Stop::Refused(Fault::OutOfLimit)),
+        Err(fault) => Err(Stop::from(fault)),
+    }
+}
+
+// Tells the races of what is asked for on standard output; a refusal of the files is told in words.
+fn tell_races(
     rt: &HostRuntime,
     request: &Request<'_>,
     search: &Search,
     words: &RaceWords<'_>,
 ) -> Result<ExitCode, Stop> {
     options_for(request, search, None, 0)?;
-    let times = Times::new(words.until, words.from)?;
+    let times = times_of(words)?;
     try_files(rt, words, &request.files)?;
     let waivers = waivers_of(rt, words)?;
     let waivers = read(rt.alloc(), &waivers)?;
@@ -512,4 +596,38 @@ pub fn tell_races(
         &texts,
         &words.tops,
     )
+}
+
+// Said of options that take back what others ask for.
+const OPPOSITES: &str = "--hold doesn't go with --taking, nor --lines with --values";
+
+// Said of two options that name one dump.
+const TWO_DUMPS: &str =
+    "--vcd doesn't go with --write-vcd: both name the dump that is to be written";
+
+// What the words after `races` ask for that can't be had, if anything.
+fn misfit_in(matches: &ArgMatches<'_>) -> Option<&'static str> {
+    if has_dashed_top(matches) || has_dashed_waivers(matches) {
+        Some(DASHED)
+    } else if has_opposites(matches) {
+        Some(OPPOSITES)
+    } else if has_two_dumps(matches) {
+        Some(TWO_DUMPS)
+    } else if has_output_over_file(matches) {
+        Some(OVER_SOURCE)
+    } else if has_one_output_for_two(matches) {
+        Some(ONE_FOR_TWO)
+    } else {
+        None
+    }
+}
+
+/// Tells the races that the words ask for on standard output.
+pub fn races_by<'a>(rt: &HostRuntime, matches: &ArgMatches<'a>) -> Result<ExitCode, Stop> {
+    if let Some(reason) = misfit_in(matches) {
+        return Err(Stop::Usage(reason));
+    }
+    let request = race_request_of(rt.alloc(), matches)?;
+    let words = race_words_of(rt.alloc(), matches)?;
+    tell_races(rt, &request, &race_search_of(matches), &words)
 }

@@ -4,12 +4,13 @@ use super::expressions::expression;
 use super::modules::text;
 use super::page::Page;
 use basis::{NoMemory, OrMemory};
+use longest_expression::parse_expr;
 use std::alloc::Global;
 use vast::module::{ModuleItem, ModuleTree, TextTree};
 use vast::statement::{Delay, Statement};
 use vast::token::Token;
 use vlex::Tokens;
-use vparse::{SyntaxFault, parse, parse_expr};
+use vparse::{SyntaxFault, parse};
 use vspell::{fits, spell};
 
 /// The tree of the text.

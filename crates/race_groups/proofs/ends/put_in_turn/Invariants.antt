@@ -4,3 +4,4 @@ use Rattle.race_groups.proofs.ends.put_in_turn.Given as goal
 
 abbrev pub invariant-loop-found : goal.invariant-loop-found
 invariant-loop-found l = SumsSoFar l.machine l.fn.ends.items (into_iter_items l.found-iterator) l.fn.kept.items l.kept.items
+    l.fn.cuts.items l.cuts.items

@@ -1,4 +1,4 @@
-use Rattle.std.proofs.Common.{List, refl, subst}
+use Rattle.std.proofs.Common.{List, refl, subst, sym, ◌∙◌}
 use Rattle.std.proofs.lemmas.Result.{on_ok_weaker}
 use Rattle.explore.specs.Ranked.{pairs_of}
 use Rattle.explore.specs.declared.rank_marks.FoundMark.{FoundMark}
@@ -14,8 +14,9 @@ pub returns-clause-ok : goal.returns-clause-ok
 returns-clause-ok c =
     let old = c.args.self.now in
     on_ok_weaker c.put_found.result
-    (λ all. takes_late c.args.time c.args.found old (record old { cut_runs = c.either-self.result }) c.put_found.new.self
-    c.if-time-self.false refl refl refl refl
+    (λ all. takes_late c.args.time c.args.found old (record old { cut_runs = c.either-self.result; ended = c.either-self-2.result }) c.put_found.new.self
+    c.if-time-self.false refl refl refl refl refl
+    (λ none. (let e = c.either-self-2.ensures none in (e.0, sym c.deref-2.ensures.value ∙ c.some_ends.ensures e.1)))
     (λ none. (let e = c.either-self.ensures none in (
       e.0,
       subst (λ (l : List (FoundMark MachineState)). AreUncut old.causes.checkpoints (pairs_of l)) c.deref.ensures.value
@@ -26,7 +27,8 @@ returns-clause-ok c =
 pub returns-then-time-self-clause-ok : goal.returns-then-time-self-clause-ok
 returns-then-time-self-clause-ok c =
     let old = c.args.self.now in
-    takes_early c.args.time c.args.found old _ c.if-time-self.true refl refl refl refl
+    takes_early c.args.time c.args.found old _ c.if-time-self.true refl refl refl refl refl
+    (λ none. (let e = c.either-self-2.ensures none in (e.0, sym c.deref-2.ensures.value ∙ c.some_ends.ensures e.1)))
     (λ none. (let e = c.either-self.ensures none in (
       e.0,
       subst (λ (l : List (FoundMark MachineState)). AreUncut old.causes.checkpoints (pairs_of l)) c.deref.ensures.value
@@ -42,5 +44,7 @@ returns-then-time-self-clause-grows c =
       groups = grows_none (group_heads old.groups.items);
       still = still_none old.scope.names old.groups.items old.groups.items refl;
       ends = grows_none old.ends.items;
+      cut_ends = grows_none old.cut_ends.items;
+      ended = λ none. (c.either-self-2.ensures none).0;
       cut = λ none. (c.either-self.ensures none).0;
     }

@@ -30,6 +30,7 @@ returns-in-Err-clause-err c =
     let forgot = c.forget_behind.ensures in
     collects_same old c.forget_behind.new.self
     (back_again old c.put_slot.new.self c.forget_behind.new.self c.len-groups.result c.len-ends.result
-    (omega (arith, c.len-groups.ensures, old.groups.ok.0)) (omega (arith, c.len-ends.ensures, old.ends.ok.0))
-    c.put_slot.ensures.grows forgot.traced forgot.scope forgot.groups forgot.ends forgot.cut)
+    c.len-cut_ends.result (omega (arith, c.len-groups.ensures, old.groups.ok.0)) (omega (arith, c.len-ends.ensures, old.ends.ok.0))
+    (omega (arith, c.len-cut_ends.ensures, old.cut_ends.ok.0))
+    c.put_slot.ensures.grows forgot.traced forgot.scope forgot.groups forgot.ends forgot.cut_ends forgot.ended forgot.cut)
     (forgot.seen ∙ c.put_slot.ensures.seen) (λ none. (let e = sym forgot.refused ∙ none in cc))

@@ -1,8 +1,0 @@
-use Rattle.vparse.proofs.LongestLaws.{counted}
-use Rattle.vexpr_parse.specs.Answers.{ahead}
-use Rattle.vparse.proofs.expressions.number_of.Goals as goal
-
-pub returns-clause-count : goal.returns-clause-count
-returns-clause-count c =
-    counted c.args.tokens.now (ahead c.args.tokens.now c.args.cursor.now) c.len.result c.left.result c.saturating_sub.result c.len.ensures.value c.left.ensures
-    c.saturating_sub.ensures
