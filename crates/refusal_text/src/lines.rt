@@ -1,6 +1,7 @@
 // Lines of the files, with a caret under a column.
 
 use crate::text::Text;
+use shown_text::whole_letters;
 use memchr::memchr;
 use vsrc::Place;
 
@@ -107,7 +108,7 @@ pub(crate) fn put_pointed(text: &mut Text, line: &[u8], column: usize) {
     let line = front(line, statement_end(line, column));
     let shown = from(line, column.saturating_sub(BEFORE));
     text.put_all(&[b"\n    "]);
-    text.put_letters(front(shown, WIDTH));
+    text.put_letters(front(shown, whole_letters(shown, WIDTH)));
     text.put_all(&[b"\n    "]);
     text.put_steps(front(shown, column.min(BEFORE)));
     text.put_all(&[b"^\n"]);

@@ -2,6 +2,7 @@
 
 use crate::lines::{from, front};
 use basis::NoMemory;
+use shown_text::put_shown;
 use std::alloc::Global;
 
 // How many letters a line of advice has at most, and how many stand before those of each.
@@ -12,22 +13,14 @@ const INDENT: usize = 13;
 /// What is told so far. It keeps whether a growth was refused, so that each piece is put without an answer.
 #[derive(Drop)]
 pub(crate) struct Text {
+    alloc: Global,
     bytes: Vec<u8>,
     refused: Option<NoMemory>,
 }
 
-// A byte as any terminal may be shown it: `?` in place of one that isn't a letter of ASCII.
-fn printable(byte: u8) -> u8 {
-    if byte == b'\t' || byte.is_ascii_graphic() || byte == b' ' {
-        byte
-    } else {
-        b'?'
-    }
-}
-
-// What moves the caret as far as the byte moves the text.
-fn step_of(byte: u8) -> u8 {
-    if byte == b'\t' { b'\t' } else { b' ' }
+// Whether the byte goes on with a letter of UTF-8.
+fn goes_on(byte: u8) -> bool {
+    byte >= 128 && byte < 192
 }
 
 // How many letters stand before the first blank outside of backticks: what stands in them isn't broken.
@@ -46,6 +39,7 @@ impl Text {
     /// Nothing so far.
     pub(crate) fn new(alloc: Global) -> Text {
         Text {
+            alloc,
             bytes: Vec::new(alloc),
             refused: None,
         }
@@ -73,17 +67,21 @@ impl Text {
         }
     }
 
-    /// The letters as any terminal may be shown them.
+    /// The letters as a terminal may be shown them; tabs stay.
     pub(crate) fn put_letters(&mut self, letters: &[u8]) {
-        for letter in letters {
-            self.put(&[printable(*letter)]);
+        if let Err(refused) = put_shown(&mut self.bytes, letters, b"\t") {
+            self.refused = Some(refused);
         }
     }
 
-    /// What moves a caret behind these letters.
+    /// What moves a caret behind these letters as they are shown: a blank for each, and each tab.
     pub(crate) fn put_steps(&mut self, letters: &[u8]) {
-        for letter in letters {
-            self.put(&[step_of(*letter)]);
+        let mut shown = Text::new(self.alloc);
+        shown.put_letters(letters);
+        for byte in &shown.bytes {
+            if !goes_on(*byte) {
+                self.put(&[step_of(*byte)]);
+            }
         }
     }
 

@@ -21,7 +21,7 @@ use Rattle.vdesign.specs.declared.design.Kind.TheVariants.{Reg, Integer, Wire, T
 use Rattle.vdesign.specs.Design.{Variable}
 use Rattle.vcd_read.specs.Words.{Text, words_of}
 use Rattle.vcd_read.specs.Timescale.{count_of, span_of_parts, unit_of}
-use Rattle.vcd_read.specs.Declarations.{HaveNoEnd, declared_variable, end_word, Declares, note, scope, timescale, upscope, variable}
+use Rattle.vcd_read.specs.Declarations.{HaveNoEnd, IsNoEnd, declared_variable, end_word, Declares, note, scope, timescale, upscope, variable}
 use Rattle.vcd_read.specs.Declarations as declarations
 use Rattle.vcd_text.specs.DumpText.{bounds_text, closings, code, identifier, kind_word, line, scope_line, timescale_line, variable_line, variable_lines}
 use Rattle.vcd_law.specs.Headers.{AreNamed, AreSmall, IsNamed, IsWord, Plain, all_seen, inmost, inner, own_name, variable_seen}
@@ -94,6 +94,13 @@ range_plain bounds small = (
 no_end_range : (bounds : Option Bounds) → HaveNoEnd (range_words bounds)
 no_end_range None = tt
 no_end_range (Some bounds) = (λ same. let first : 91 ≡ 36 = ap (λ (w : Text). get_or w 0 0) same in omega arith, tt)
+
+-- an identifier is no `$end`: as a name that would be escaped
+no_end_name : (v : Variable) → declarations.name_of (identifier (own_name v)) ≡ own_name v → IsNoEnd (identifier (own_name v))
+no_end_name v whole same =
+    let own : own_name v ≡ end_word = sym whole ∙ ap declarations.name_of same in
+    let first : 36 ≡ 92 = ap (λ (w : Text). get_or w 0 0) (sym same ∙ ap identifier own) in
+    omega arith
 
 -- the name, its range, and the end
 tail_words : (w : Text) (c : ℕ) (cs : Text) (bounds : Option Bounds) → w ≡ c ∷ cs → Plain w → AreSmall bounds → (rest : List ℕ) →
@@ -208,7 +215,7 @@ lead_variable prefixes n v named before = record {
       (codes "$var" ∷ kind_word v.kind ∷ decimal v.length ∷ code n ∷ identifier (own_name v) ∷ ws) unit
       (declared_variable (inmost prefixes) (identifier (own_name v)) v.length (code n) ∷ more)) (sym (append_assoc range (end_word ∷ []) rest))
       (variable before unit (inmost prefixes) (outer prefixes) (kind_word v.kind) (decimal v.length) (code n) (identifier (own_name v)) range rest v.length more
-      (decimal_is v.length named.length) (no_end_range v.bounds) d));
+      (decimal_is v.length named.length) (no_end_name v named.whole) (no_end_range v.bounds) d));
 }
 
 pub lead_variables : (prefixes : List Text) (n : ℕ) (vs : List Variable) → AreNamed (inmost prefixes) vs → Leads prefixes prefixes (variable_lines n vs) (all_seen n vs)

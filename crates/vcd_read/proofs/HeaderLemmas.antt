@@ -5,7 +5,7 @@ use Rattle.basis.specs.declared.timescale.Span.{Span}
 use Rattle.vcd_read.specs.Words.{Text}
 use Rattle.vcd_read.specs.Numbers.{IsDecimal}
 use Rattle.vcd_read.specs.Timescale.{span_in}
-use Rattle.vcd_read.specs.Declarations.{Variable, Declares, done, note, scope, timescale, upscope, variable, is_note, HaveNoEnd, end_word, declared_variable}
+use Rattle.vcd_read.specs.Declarations.{Variable, Declares, done, note, scope, timescale, upscope, variable, is_note, HaveNoEnd, IsNoEnd, end_word, declared_variable}
 use Rattle.vcd_read.specs.Declaring.{Lead, all_seen, outer_of}
 use Rattle.vcd_read.specs.declared.header.Header.{Header}
 use Rattle.vcd_read.specs.declared.header.VcdVariable.{VcdVariable}
@@ -39,17 +39,18 @@ lead_upscope old new q o same = record {
       (codes "$upscope" ∷ end_word ∷ rest) more o refl (sym q) (upscope new.unit unit new.prefix.items old.prefix.items (outer_of new) rest more d);
 }
 
-pub lead_variable : (old new : Header) (kind size code reference : Text) (range : List Text) (width : ℕ) → IsDecimal size width → HaveNoEnd range →
+pub lead_variable : (old new : Header) (kind size code reference : Text) (range : List Text) (width : ℕ) → IsDecimal size width →
+    IsNoEnd reference → HaveNoEnd range →
     new.prefix.items ≡ old.prefix.items → outer_of new ≡ outer_of old → new.unit ≡ old.unit →
     all_seen new.variables.items ≡ all_seen old.variables.items ++ declared_variable old.prefix.items reference width code ∷ [] →
     Lead (codes "$var" ∷ kind ∷ size ∷ code ∷ reference ∷ (range ++ end_word ∷ [])) old new
-lead_variable old new kind size code reference range width number without p q o added = record {
+lead_variable old new kind size code reference range width number named without p q o added = record {
   variables = declared_variable old.prefix.items reference width code ∷ [];
   added = added;
   goes_on = λ rest unit more d.
       subst (λ (words : List Text). Declares old.unit old.prefix.items (outer_of old) (codes "$var" ∷ kind ∷ size ∷ code ∷ reference ∷ words) unit
       (declared_variable old.prefix.items reference width code ∷ more)) (sym (append_assoc range (end_word ∷ []) rest))
-      (variable old.unit unit old.prefix.items (outer_of old) kind size code reference range rest width more number without
+      (variable old.unit unit old.prefix.items (outer_of old) kind size code reference range rest width more number named without
       (elsewhere new.unit old.unit unit new.prefix.items old.prefix.items (outer_of new) (outer_of old) rest more o p q d));
 }
 

@@ -166,7 +166,7 @@ read_is before prefix outer words unit variables after (scope _ _ _ _ kind name 
 read_is before prefix outer words unit variables after (timescale _ _ _ list rest span more without is d) =
     unit_passed prefix outer list rest after span without is ∙ read_is (Some span) prefix outer rest unit more after d
 read_is before prefix outer words unit variables after (upscope _ _ round _ around rest more d) = read_is before round around rest unit more after d
-read_is before prefix outer words unit variables after (variable _ _ _ _ kind size code reference range rest width more number without d) =
+read_is before prefix outer words unit variables after (variable _ _ _ _ kind size code reference range rest width more number named without d) =
     let next = note_passed before prefix outer range rest after without ∙ read_is before prefix outer rest unit more after d in
     λ i. record { unit = (next i).unit; variables = declared_variable prefix reference (number.value i) code ∷ (next i).variables; left = (next i).left }
 

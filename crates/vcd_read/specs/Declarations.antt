@@ -76,6 +76,7 @@ pub data Declares : Option Span → Text → List Text → List Text → Option 
       Declares before prefix outer rest unit variables → Declares before inner (prefix ∷ outer) (codes "$upscope" ∷ end_word ∷ rest) unit variables
   -- 18.2.3.8: a range, if there is one, may stand behind the name or be a word of its own
   variable : (before unit : Option Span) (prefix : Text) (outer : List Text) (kind size code reference : Text) (range rest : List Text) (width : ℕ)
-      (variables : List Variable) → IsDecimal size width → HaveNoEnd range → Declares before prefix outer rest unit variables →
+      (variables : List Variable) → IsDecimal size width → IsNoEnd reference → HaveNoEnd range →
+      Declares before prefix outer rest unit variables →
       Declares before prefix outer (codes "$var" ∷ kind ∷ size ∷ code ∷ reference ∷ (range ++ end_word ∷ rest)) unit
       (declared_variable prefix reference width code ∷ variables)

@@ -263,7 +263,7 @@ impl Header {
             return Err(words.no_dump(VcdFlaw::Number));
         };
         let code = words.take(alloc)?;
-        let reference = words.take(alloc)?;
+        let reference = words.take_inner(alloc)?;
         words.pass()?;
         if self.variables.len() >= MOST {
             return Err(words.no_dump(VcdFlaw::Limit));

@@ -19,7 +19,7 @@ returns-clause-lead g c =
     let second = left g.R.Read.remaining c.must.new.self.bytes in
     let third = left g.R.Read.remaining c.must-2.new.self.bytes in
     let fourth = left g.R.Read.remaining c.take.new.self.bytes in
-    let fifth = left g.R.Read.remaining c.take-2.new.self.bytes in
+    let fifth = left g.R.Read.remaining c.take_inner.new.self.bytes in
     let last = left g.R.Read.remaining c.pass.new.self.bytes in
     let ending : List Text = range ++ end_word ∷ [] in
     let number : IsDecimal size c.in-Some.width = subst (λ (text : Text). IsDecimal text c.in-Some.width) c.word.ensures c.in-Some.ensures in (
@@ -28,7 +28,7 @@ returns-clause-lead g c =
           (more_come (size ∷ []) (code ∷ reference ∷ ending) second third last c.in_ok-must-2.ensures.word
           (more_come (code ∷ []) (reference ∷ ending) third fourth last c.in_ok-code.ensures.word
           (more_come (reference ∷ []) ending fourth fifth last c.in_ok-reference.ensures.word passed))),
-      lead_variable c.args.self.now c.add.new.self kind size code reference range c.in-Some.width number without c.in_ok-add.ensures.prefix c.in_ok-add.ensures.outer c.in_ok-add.ensures.unit
+      lead_variable c.args.self.now c.add.new.self kind size code reference range c.in-Some.width number c.in_ok-reference.ensures.inner without c.in_ok-add.ensures.prefix c.in_ok-add.ensures.outer c.in_ok-add.ensures.unit
           (c.in_ok-add.ensures.variables ∙ ap (λ (text : List ℕ). all_seen c.args.self.now.variables.items
           ++ declared_variable c.args.self.now.prefix.items text c.in-Some.width code ∷ []) c.deref.ensures.value),
     )
