@@ -2,7 +2,7 @@
 
 use crate::stop::Stop;
 use basis::NoMemory;
-use refusal_text::{Files, refusal_text};
+use refusal_text::{Files, line_starts, refusal_text};
 use shown_text::shown_name;
 use std::alloc::Global;
 use std::process::ExitCode;
@@ -38,9 +38,11 @@ fn words_of(
 ) -> Result<Vec<u8>, NoMemory> {
     let shown = shown_names(alloc, names)?;
     let names = borrowed(alloc, &shown)?;
+    let starts = line_starts(alloc, texts)?;
     let files = Files {
         names: &names,
         texts,
+        starts: &starts,
     };
     refusal_text(alloc, number, place, files, tops)
 }

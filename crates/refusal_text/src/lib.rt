@@ -34,5 +34,5 @@ mod undeclared;
 mod walk;
 mod words;
 
-pub use lines::{Files, line_of};
+pub use lines::{Files, line_of, line_starts};
 pub use told::refusal_text;

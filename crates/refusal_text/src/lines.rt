@@ -1,8 +1,10 @@
 // Lines of the files, with a caret under a column.
 
 use crate::text::Text;
-use shown_text::whole_letters;
+use basis::NoMemory;
 use memchr::memchr;
+use shown_text::whole_letters;
+use std::alloc::Global;
 use vsrc::Place;
 
 // How much of a line is shown before the caret, and in all; before it stand four blanks.
@@ -10,11 +12,12 @@ const BEFORE: usize = 80;
 
 const WIDTH: usize = 116;
 
-/// The files, by their names and texts.
+/// The files, by their names and texts, and where the lines of each begin (`line_starts`).
 #[derive(Clone, Copy)]
 pub struct Files<'a> {
     pub names: &'a [&'a str],
     pub texts: &'a [Vec<u8>],
+    pub starts: &'a [Vec<usize>],
 }
 
 /// The letters from this one on.
@@ -41,6 +44,30 @@ fn first_line(text: &[u8]) -> &[u8] {
     }
 }
 
+// Where the lines of a text begin.
+fn starts_of(alloc: Global, text: &[u8]) -> Result<Vec<usize>, NoMemory> {
+    let mut starts = Vec::new(alloc);
+    let mut start = 0usize;
+    starts.push(start)?;
+    for _ in 0..text.len() {
+        let Some(at) = memchr(b'\n', from(text, start)) else {
+            return Ok(starts);
+        };
+        start = start.saturating_add(at).saturating_add(1);
+        starts.push(start)?;
+    }
+    Ok(starts)
+}
+
+/// Of each of these texts, where its lines begin.
+pub fn line_starts(alloc: Global, texts: &[Vec<u8>]) -> Result<Vec<Vec<usize>>, NoMemory> {
+    let mut all = Vec::new(alloc);
+    for text in texts {
+        all.push(starts_of(alloc, text)?)?;
+    }
+    Ok(all)
+}
+
 /// The line of this number, from 1; empty where there are fewer.
 pub fn line_of(text: &[u8], number: usize) -> &[u8] {
     let mut rest = text;
@@ -51,6 +78,14 @@ pub fn line_of(text: &[u8], number: usize) -> &[u8] {
         }
     }
     first_line(rest)
+}
+
+// The line of this number, from 1, of a text whose lines begin there.
+fn line_from<'a>(text: &'a [u8], starts: &[usize], number: usize) -> &'a [u8] {
+    match starts.get(number.saturating_sub(1)) {
+        None => &[],
+        Some(start) => first_line(from(text, *start)),
+    }
 }
 
 /// How many bytes stand before the place in the text of its file.
@@ -78,7 +113,10 @@ impl<'a> Files<'a> {
     pub fn line(&self, place: Place) -> &'a [u8] {
         match self.texts.get(place.file.saturating_sub(1)) {
             None => &[],
-            Some(text) => line_of(text, place.line),
+            Some(text) => match self.starts.get(place.file.saturating_sub(1)) {
+                None => &[],
+                Some(starts) => line_from(text, starts, place.line),
+            },
         }
     }
 }

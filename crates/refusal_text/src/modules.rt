@@ -3,6 +3,7 @@
 use crate::walk::{Level, Opening, Walk};
 use crate::words::{Words, is, is_name};
 use basis::NoMemory;
+use indexmap::IndexSet;
 use std::alloc::Global;
 use vlex::Tokens;
 use vsrc::Place;
@@ -30,6 +31,15 @@ pub(crate) fn are_named(all: &[Named<'_>], name: &[u8]) -> bool {
         }
     }
     false
+}
+
+/// Their names, each once.
+pub(crate) fn names_of(alloc: Global, all: &[Named<'_>]) -> Result<IndexSet<Vec<u8>>, NoMemory> {
+    let mut names = IndexSet::new(alloc);
+    for one in all {
+        names.insert(Vec::from_slice(alloc, one.name)?)?;
+    }
+    Ok(names)
 }
 
 /// Whether the word begins instances of a module.

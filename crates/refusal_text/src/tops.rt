@@ -1,11 +1,12 @@
 // Which modules may be the top, where none is, or several are.
 
-use crate::find::{Found, What, keep};
+use crate::find::{Found, What};
 use crate::lines::Files;
 use crate::message::{put_place, put_quoted, put_rest, put_shown};
-use crate::modules::{Modules, Named, are_named};
+use crate::modules::{Modules, Named, are_named, names_of};
 use crate::text::Text;
 use basis::NoMemory;
+use indexmap::IndexSet;
 use std::alloc::Global;
 use vsrc::Place;
 
@@ -23,9 +24,10 @@ fn never_instantiated<'a>(
     alloc: Global,
     modules: &Modules<'a>,
 ) -> Result<Vec<Named<'a>>, NoMemory> {
+    let instantiated = names_of(alloc, &modules.instances)?;
     let mut tops = Vec::new(alloc);
     for module in &modules.modules {
-        if !are_named(&modules.instances, module.name) {
+        if !instantiated.contains(module.name) {
             tops.push(*module)?;
         }
     }
@@ -93,21 +95,33 @@ pub(crate) fn put_none(
     Ok(())
 }
 
-/// Each module that isn't there and of which the text has instances.
+// A module that isn't there, by one of its instances.
+fn missing<'a>(one: &Named<'a>) -> Found<'a> {
+    Found {
+        what: What::Broken(301),
+        word: one.word,
+        place: one.place,
+        more: 0,
+    }
+}
+
+/// Each module that isn't there and of which the text has instances, by the first of these; and how many more there are.
 pub(crate) fn missing_modules<'a>(
     alloc: Global,
     modules: &Modules<'a>,
 ) -> Result<Vec<Found<'a>>, NoMemory> {
-    let mut all = Vec::new(alloc);
+    let defined = names_of(alloc, &modules.modules)?;
+    let mut names: IndexSet<Vec<u8>> = IndexSet::new(alloc);
+    let mut all: Vec<Found<'a>> = Vec::new(alloc);
     for one in &modules.instances {
-        if !are_named(&modules.modules, one.name) {
-            let found = Found {
-                what: What::Broken(301),
-                word: one.word,
-                place: one.place,
-                more: 0,
-            };
-            keep(&mut all, found)?;
+        if defined.contains(one.name) {
+            continue;
+        }
+        let (at, is_new) = names.insert_full(Vec::from_slice(alloc, one.name)?)?;
+        if is_new {
+            all.push(missing(one))?;
+        } else if let Some(found) = all.get_mut(at) {
+            found.more = found.more.saturating_add(1);
         }
     }
     Ok(all)
