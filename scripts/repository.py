@@ -37,6 +37,13 @@ def needed(named, uses):
     return [name for name in uses if name in found]
 
 
+def edits():
+    """Each wrong body: the crate whose body it is, and its file. Those of the gate come first."""
+    for place, part in (("crates/*/must-fail/*.edit", 1), ("tests/planted/*/*.edit", 2)):
+        for edit in sorted(ROOT.glob(place)):
+            yield edit.relative_to(ROOT).parts[part], edit
+
+
 def copied(room):
     """Copies the repository's files into the folder, and nothing that checks kept."""
     told = subprocess.run(["git", "ls-files", "-coz", "--exclude-standard"], cwd=ROOT, check=True, capture_output=True, text=True)
