@@ -23,6 +23,11 @@ fn goes_on(byte: u8) -> bool {
     byte >= 128 && byte < 192
 }
 
+// What moves the caret as far as the byte moves the text.
+fn step_of(byte: u8) -> u8 {
+    if byte == b'\t' { b'\t' } else { b' ' }
+}
+
 // How many letters stand before the first blank outside of backticks: what stands in them isn't broken.
 fn piece_len(letters: &[u8]) -> usize {
     let mut is_quoted = false;
