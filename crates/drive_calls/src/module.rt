@@ -3,6 +3,7 @@
 use crate::refused::{refused_input, refused_parameter, refused_skeleton, told};
 use basis::{NoMemory, Timescale};
 use command_line::DriveWords;
+use drive_dump::{DrivenModule, is_among};
 use drive_ports::{Edges, ModulePort, Modules, edges_of, modules_of_files};
 use drive_text::{DrivenPort, Parameter, Role, fresh_name, skeleton_text};
 use program_base::Stop;
@@ -11,31 +12,6 @@ use sched_core::setting::Grain;
 use std::alloc::Global;
 use vdesign::design::Design;
 use vrace::{Fault, Options, machine_of_files};
-
-/// A module that is driven.
-#[derive(Drop)]
-pub(crate) struct DrivenModule {
-    pub name: Vec<u8>,
-    pub top: Vec<u8>,
-    pub instance: Vec<u8>,
-    pub parameters: Vec<Parameter>,
-    pub ports: Vec<DrivenPort>,
-    /// Of each port, which edges of it are heard.
-    pub edges: Vec<Edges>,
-    /// Of each port, whether its leftmost bit has the lowest number.
-    pub ascends: Vec<bool>,
-    pub scale: Timescale,
-}
-
-impl DrivenModule {
-    /// How many inputs it has.
-    pub(crate) fn inputs(&self) -> usize {
-        self.ports
-            .iter()
-            .filter(|port| port.role != Role::Output)
-            .count()
-    }
-}
 
 // The options by which files are read.
 fn options_of<'a>(top: Option<&'a [u8]>) -> Result<Options<'a>, Fault> {
@@ -128,16 +104,6 @@ fn named_module(
         ascends: Vec::new(alloc),
         scale: Timescale::usual(),
     })
-}
-
-// Whether the name stands among these words.
-fn is_among(words: &[&str], name: &[u8]) -> bool {
-    for word in words {
-        if word.as_bytes() == name {
-            return true;
-        }
-    }
-    false
 }
 
 // What becomes of a port.

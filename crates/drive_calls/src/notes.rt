@@ -1,9 +1,7 @@
 // What is to be known of a testbench, on standard error.
 
-use crate::changes::Recording;
-use crate::columns::InputColumns;
-use crate::module::DrivenModule;
 use basis::{NoMemory, Span};
+use drive_dump::{DrivenModule, InputColumns, Recording};
 use drive_text::Role;
 use race_words::pieces::string_of;
 use race_words::{Piece, put_all};
@@ -12,9 +10,9 @@ use std::alloc::Global;
 // The most letters of a name that is told.
 const LETTERS: usize = 200;
 
-// A time, in so many of which units.
+/// A time, in so many of which units.
 #[derive(Clone, Copy)]
-struct ToldTime {
+pub(crate) struct ToldTime {
     time: u64,
     unit: Span,
 }
@@ -28,8 +26,8 @@ pub(crate) struct ToldUnits {
 }
 
 impl ToldUnits {
-    // The time, in the longer unit where it is a whole number of them.
-    fn time(self, time: u64) -> ToldTime {
+    /// The time, in the longer unit where it is a whole number of them.
+    pub(crate) fn time(self, time: u64) -> ToldTime {
         if time.checked_rem(self.parts) == Some(0) {
             return ToldTime {
                 time: time.checked_div(self.parts).unwrap_or(0),
@@ -44,14 +42,14 @@ impl ToldUnits {
 }
 
 impl ToldTime {
-    // As a number of its unit.
-    fn number(self) -> u64 {
+    /// As a number of its unit.
+    pub(crate) fn number(self) -> u64 {
         self.time
             .saturating_mul(u64::from(self.unit.count.number()))
     }
 
-    // The word of its unit.
-    fn word(self) -> &'static [u8] {
+    /// The word of its unit.
+    pub(crate) fn word(self) -> &'static [u8] {
         self.unit.unit.name().as_bytes()
     }
 }
