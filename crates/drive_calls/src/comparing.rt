@@ -3,14 +3,15 @@
 use crate::differing::{Told, answer_words};
 use crate::notes::ToldUnits;
 use crate::reading::ReadDump;
+use crate::stops::is_file;
 use basis::{NoMemory, Timescale};
 use command_line::DriveWords;
 use drive_dump::{DrivenModule, Recording};
-use drive_match::{Asked, Bounds, compare};
+use drive_match::{Answer, Asked, Bounds, NotCompared, compare};
 use drive_text::Role;
 use std::alloc::Global;
 
-/// The names of the testbench's module, of the instance in it and of the scope; a reset whose first value is an edge; from when on each input is
+/// The names of the testbench's module, of the instance in it and of the scope; an input that is posted at time 0; from when on each input is
 /// as the dump has it, and the last time that is driven, in units of the precision, of which each has so many `parts` of those that are
 /// shown; and whether all inputs are known from the dump's beginning on.
 #[derive(Drop)]
@@ -18,43 +19,45 @@ pub(crate) struct ToCompare {
     top: Vec<u8>,
     instance: Vec<u8>,
     scope: Vec<u8>,
-    reset: Option<Vec<u8>>,
+    posted: Option<Vec<u8>>,
     settled: Option<u64>,
     last: u64,
     parts: u64,
     knows_all: bool,
 }
 
-// Whether each input stands in the dump.
-fn has_each(module: &DrivenModule, read: &ReadDump) -> bool {
-    for (port, column) in module.ports.iter().zip(read.columns.iter()) {
-        if port.role != Role::Output && !column.are_some() {
+// Whether the dump has a value of each input.
+fn has_each(module: &DrivenModule, recording: &Recording) -> bool {
+    for (place, port) in module.ports.iter().enumerate() {
+        if port.role != Role::Output && !recording.has_value(place) {
             return false;
         }
     }
     true
 }
 
-// The first input whose value at the first time is an edge that a process hears as a reset.
-fn early_reset(module: &DrivenModule, recording: &Recording) -> Option<usize> {
+// An input that is posted at time 0: one that a process hears as a reset, if there is one, else the first.
+fn posted_at_first(module: &DrivenModule, recording: &Recording) -> Option<usize> {
+    let mut found: Option<usize> = None;
     for change in &recording.changes {
-        if change.time > recording.first {
-            return None;
+        if change.time > 0 {
+            return found;
         }
         if module.is_posted_reset(change.port) {
             return Some(change.port);
         }
+        found = found.or(Some(change.port));
     }
-    None
+    found
 }
 
 // The name of that input.
-fn reset_name(
+fn posted_name(
     alloc: Global,
     module: &DrivenModule,
     recording: &Recording,
 ) -> Result<Option<Vec<u8>>, NoMemory> {
-    let Some(place) = early_reset(module, recording) else {
+    let Some(place) = posted_at_first(module, recording) else {
         return Ok(None);
     };
     match module.ports.get(place) {
@@ -86,11 +89,11 @@ pub(crate) fn compared_of(
         top: Vec::from_slice(alloc, &module.top)?,
         instance: Vec::from_slice(alloc, &module.instance)?,
         scope: Vec::from_slice(alloc, &read.scope)?,
-        reset: reset_name(alloc, module, recording)?,
+        posted: posted_name(alloc, module, recording)?,
         settled: recording.settled().map(|time| in_parts(time, parts)),
         last: recording.last.checked_div(parts).unwrap_or(0),
         parts,
-        knows_all: recording.first == 0 && has_each(module, read),
+        knows_all: recording.first == 0 && has_each(module, recording),
     })
 }
 
@@ -102,6 +105,60 @@ fn with_bench(alloc: Global, texts: &[Vec<u8>], bench: &[u8]) -> Result<Vec<Vec<
         all.push(Vec::from_slice(alloc, text)?)?;
     }
     Ok(all)
+}
+
+impl ToCompare {
+    // What is told of it.
+    fn told<'a>(&'a self, words: &DriveWords<'a>, from: u64, units: ToldUnits) -> Told<'a> {
+        Told {
+            dump: words.dump,
+            scope: &self.scope,
+            top: &self.top,
+            instance: &self.instance,
+            posted: self.posted_input(),
+            from,
+            parts: self.parts,
+            units,
+            steps: words.steps,
+            seconds: words.seconds,
+        }
+    }
+
+    // The input that is posted at time 0, if there is one.
+    fn posted_input(&self) -> Option<&[u8]> {
+        match &self.posted {
+            None => None,
+            Some(name) => Some(name),
+        }
+    }
+}
+
+// What came of comparing the testbench and the files behind it, from this time on.
+fn answer_of(
+    rt: &HostRuntime,
+    words: &DriveWords<'_>,
+    texts: &[Vec<u8>],
+    compared: &ToCompare,
+    from: u64,
+) -> Result<Answer, NoMemory> {
+    if !is_file(rt, words.dump) {
+        return Ok(Answer::Not(NotCompared::Pipe));
+    }
+    let asked = Asked {
+        texts,
+        top: &compared.top,
+        instance: &compared.instance,
+        dump: words.dump,
+        scope: &compared.scope,
+        bounds: Bounds {
+            from,
+            last: compared.last,
+            knows_all: compared.knows_all,
+            steps: words.steps,
+            seconds: words.seconds,
+        },
+    };
+    compare(rt, &asked)
 }
 
 /// What is to be told of the testbench's default order beside the dump: nothing where none of its values differs.
@@ -117,40 +174,6 @@ pub(crate) fn compare_bench(
         return Ok(String::new(rt.alloc()));
     };
     let all = with_bench(rt.alloc(), texts, bench)?;
-    let asked = Asked {
-        texts: &all,
-        top: &compared.top,
-        instance: &compared.instance,
-        dump: words.dump,
-        scope: &compared.scope,
-        bounds: Bounds {
-            from,
-            last: compared.last,
-            knows_all: compared.knows_all,
-            steps: words.steps,
-            seconds: words.seconds,
-        },
-    };
-    let answer = compare(rt, &asked)?;
-    let told = Told {
-        dump: words.dump,
-        scope: &compared.scope,
-        top: &compared.top,
-        instance: &compared.instance,
-        reset: reset_of(compared),
-        from,
-        parts: compared.parts,
-        units,
-        steps: words.steps,
-        seconds: words.seconds,
-    };
-    answer_words(rt.alloc(), &answer, &told)
-}
-
-// The reset whose first value is an edge, if there is one.
-fn reset_of(compared: &ToCompare) -> Option<&[u8]> {
-    match &compared.reset {
-        None => None,
-        Some(name) => Some(name),
-    }
+    let answer = answer_of(rt, words, &all, compared, from)?;
+    answer_words(rt.alloc(), &answer, &compared.told(words, from, units))
 }

@@ -12,17 +12,17 @@ const LETTERS: usize = 200;
 
 // What may be behind a difference.
 const REASON: &[u8] =
-    b": the simulator took another order there, of a race of the testbench with the design or of one in the design, or a parameter has another value (--param)";
+    b": the simulator took a race the other way there, or a parameter has another value (--param)";
 
-/// What is compared: the dump, the scope in it, the testbench's module and the instance in it; a reset whose first value is an edge, and the
-/// first time that is compared; how many of the units that are shown make one of the precision; and the limits.
+/// What is compared: the dump, the scope in it, the testbench's module and the instance in it; an input that is posted at time 0, and the first
+/// time that is compared; how many of the units that are shown make one of the precision; and the limits.
 #[derive(Clone, Copy)]
 pub(crate) struct Told<'a> {
     pub dump: &'a str,
     pub scope: &'a [u8],
     pub top: &'a [u8],
     pub instance: &'a [u8],
-    pub reset: Option<&'a [u8]>,
+    pub posted: Option<&'a [u8]>,
     pub from: u64,
     pub parts: u64,
     pub units: ToldUnits,
@@ -71,14 +71,14 @@ impl Told<'_> {
     // What may be behind the first difference.
     fn put_reason(&self, text: &mut Vec<u8>, one: &Difference) -> Result<(), NoMemory> {
         put(text, REASON)?;
-        match self.reset {
-            Some(reset) if one.time <= self.from => put_all(
+        match self.posted {
+            Some(input) if one.time <= self.from => put_all(
                 text,
                 &[
                     Piece::Bytes(b", or "),
-                    Piece::Cut(reset, LETTERS),
-                    Piece::Bytes(b" has its first value without an edge (--declared "),
-                    Piece::Cut(reset, LETTERS),
+                    Piece::Cut(input, LETTERS),
+                    Piece::Bytes(b" has its first value from the beginning on (--declared "),
+                    Piece::Cut(input, LETTERS),
                     Piece::Bytes(b")"),
                 ],
             ),
@@ -113,55 +113,43 @@ impl Told<'_> {
         put(text, b"\n")
     }
 
+    // The same, with a number in the reason.
+    fn put_option(
+        &self,
+        text: &mut Vec<u8>,
+        time: u64,
+        before: &[u8],
+        number: Piece<'_>,
+        behind: &[u8],
+    ) -> Result<(), NoMemory> {
+        let why = [Piece::Bytes(before), number, Piece::Bytes(behind)];
+        self.put_limit(text, time, &why)
+    }
+
     // How far it was compared, where that is not to the end.
     fn put_extent(&self, text: &mut Vec<u8>, extent: Extent) -> Result<(), NoMemory> {
         match extent {
             Extent::Whole => Ok(()),
             Extent::Ended(time) => {
-                self.put_limit(
-                    text,
-                    time,
-                    &[Piece::Bytes(b", where it ends before the dump does")],
-                )
+                let why: &[u8] = b", where it ends before the dump does";
+                self.put_limit(text, time, &[Piece::Bytes(why)])
             }
             Extent::Steps(time) => {
                 let steps = Piece::Count(self.steps, b"step");
-                self.put_limit(
-                    text,
-                    time,
-                    &[
-                        Piece::Bytes(b": it took "),
-                        steps,
-                        Piece::Bytes(b" (--steps)"),
-                    ],
-                )
+                self.put_option(text, time, b": it took ", steps, b" (--steps)")
             }
             Extent::Seconds(time) => {
                 let seconds = Piece::Count(self.seconds, b"second");
-                self.put_limit(
-                    text,
-                    time,
-                    &[
-                        Piece::Bytes(b": that took "),
-                        seconds,
-                        Piece::Bytes(b" (--seconds)"),
-                    ],
-                )
+                self.put_option(text, time, b": that took ", seconds, b" (--seconds)")
             }
             Extent::Dump(time, Some(line)) => {
-                let why = Piece::Bytes(b": a time or a value in line ");
-                self.put_limit(
-                    text,
-                    time,
-                    &[
-                        why,
-                        Piece::Number(line),
-                        Piece::Bytes(b" fits none of the files"),
-                    ],
-                )
+                let line = Piece::Number(line);
+                let why: &[u8] = b": a time or a value in line ";
+                self.put_option(text, time, why, line, b" fits none of the files")
             }
             Extent::Dump(time, None) => {
-                self.put_limit(text, time, &[Piece::Bytes(b": the dump can't be read on")])
+                let why: &[u8] = b": the dump can't be read on";
+                self.put_limit(text, time, &[Piece::Bytes(why)])
             }
         }
     }

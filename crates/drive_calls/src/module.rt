@@ -11,7 +11,7 @@ use race_words::{Piece, put, put_all};
 use sched_core::setting::Grain;
 use std::alloc::Global;
 use vdesign::design::Design;
-use vrace::{Fault, Options, machine_of_files};
+use vrace::{At, Fault, Options, machine_of_files};
 
 // The options by which files are read.
 fn options_of<'a>(top: Option<&'a [u8]>) -> Result<Options<'a>, Fault> {
@@ -269,7 +269,7 @@ pub(crate) fn module_of(
 ) -> Result<DrivenModule, Stop> {
     let name = top_of(alloc, texts, words.top)?;
     let Some(modules) = modules_of_files(alloc, texts, &name)? else {
-        return Err(Stop::NoMemory);
+        return Err(Stop::Refused(Fault::NoTree(At(None))));
     };
     let mut module = named_module(alloc, name, &modules, words)?;
     read_module(alloc, texts, &mut module, &modules, words)?;

@@ -54,19 +54,25 @@ impl ToldTime {
     }
 }
 
-// Each input that the dump doesn't have.
+// Each input of which the dump has no value.
 fn put_missing(
     text: &mut Vec<u8>,
     module: &DrivenModule,
     columns: &[InputColumns],
+    recording: &Recording,
 ) -> Result<(), NoMemory> {
-    for (port, column) in module.ports.iter().zip(columns.iter()) {
-        if port.role != Role::Output && !column.are_some() {
+    for (place, port) in module.ports.iter().enumerate() {
+        if port.role != Role::Output && !recording.has_value(place) {
+            let why: &[u8] = match columns.get(place) {
+                Some(column) if column.are_some() => b" has no value in the dump",
+                _ => b" isn't in the dump",
+            };
             put_all(
                 text,
                 &[
                     Piece::Cut(&port.name, LETTERS),
-                    Piece::Bytes(b" isn't in the dump: it is x throughout\n"),
+                    Piece::Bytes(why),
+                    Piece::Bytes(b": it is x throughout\n"),
                 ],
             )?;
         }
@@ -177,7 +183,7 @@ pub(crate) fn notes(
 ) -> Result<String, NoMemory> {
     let mut text = Vec::new(alloc);
     put_begin(&mut text, units.time(recording.first))?;
-    put_missing(&mut text, module, columns)?;
+    put_missing(&mut text, module, columns, recording)?;
     put_clockless(&mut text, module)?;
     put_still(&mut text, module, recording)?;
     put_collisions(&mut text, module, recording, units)?;

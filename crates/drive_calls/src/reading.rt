@@ -2,7 +2,7 @@
 
 use crate::refused::{no_candidate, no_scope, other_width, several_scopes, told, unknown};
 use crate::scale::DumpUnits;
-use crate::stops::{open_file, stop_of_changes, stop_of_open};
+use crate::stops::{is_file, no_second_time, open_file, stop_of_changes, stop_of_open};
 use basis::NoMemory;
 use byte_sinks::Metered;
 use command_line::DriveWords;
@@ -40,6 +40,9 @@ fn chosen_scope(
 
 // The numbers of bits in a dump.
 fn indices_of(rt: &HostRuntime, name: &str) -> Result<Indices, Stop> {
+    if !is_file(rt, name) {
+        return Err(no_second_time(rt.alloc(), name));
+    }
     let mut reader = Metered::new(open_file(rt, name)?);
     Ok(Indices::of(rt.alloc(), &mut reader)?)
 }
@@ -152,6 +155,21 @@ fn has_some(columns: &[InputColumns]) -> bool {
     false
 }
 
+// What changes at the inputs of the module. E303 where the dump has no time.
+fn recorded(
+    alloc: Global,
+    open: &mut OpenDump,
+    module: &mut DrivenModule,
+    columns: &[InputColumns],
+    window: Window<'_>,
+) -> Result<Recording, Stop> {
+    match record(alloc, open, module, columns, window) {
+        Err(fault) => Err(stop_of_changes(alloc, fault)),
+        Ok(None) => Err(unknown(told(alloc, &[Piece::Bytes(b"the dump has no time\n")]))),
+        Ok(Some(recording)) => Ok(recording),
+    }
+}
+
 /// Reads what changes at the inputs of the module.
 pub(crate) fn read_dump(
     rt: &HostRuntime,
@@ -185,14 +203,10 @@ pub(crate) fn read_dump(
         Ok(open) => open,
         Err(fault) => return Err(stop_of_changes(alloc, fault)),
     };
-    match record(alloc, &mut open, module, &columns, window) {
-        Err(fault) => Err(stop_of_changes(alloc, fault)),
-        Ok(None) => Err(unknown(told(alloc, &[Piece::Bytes(b"the dump has no time\n")]))),
-        Ok(Some(recording)) => Ok(ReadDump {
-            recording,
-            columns,
-            scope,
-            units,
-        }),
-    }
+    Ok(ReadDump {
+        recording: recorded(alloc, &mut open, module, &columns, window)?,
+        columns,
+        scope,
+        units,
+    })
 }

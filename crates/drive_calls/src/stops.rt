@@ -1,11 +1,13 @@
 // What ends a call early, of what a dump and a text are refused for.
 
-use crate::refused::too_long;
+use crate::refused::{told, too_long};
 use basis::OrMemory;
 use drive_dump::DriveFault;
 use drive_text::TextFault;
 use program_base::{Stop, refused_open};
+use race_words::Piece;
 use std::alloc::Global;
+use std::fs;
 use std::fs::File;
 use vcd_read::VcdFault;
 use vrace::Fault;
@@ -49,5 +51,30 @@ pub(crate) fn open_file(rt: &HostRuntime, name: &str) -> Result<File, Stop> {
     match File::open(rt, name) {
         Ok(file) => Ok(file),
         Err(error) => Err(refused_open(rt.alloc(), name, &error)),
+    }
+}
+
+/// Whether what has this name is a file, and can be read a second time.
+pub(crate) fn is_file(rt: &HostRuntime, name: &str) -> bool {
+    match fs::metadata(rt, name) {
+        Ok(found) => found.is_file(),
+        Err(_) => false,
+    }
+}
+
+/// E903: the numbers of bits are read before the dump is, and this is no file.
+pub(crate) fn no_second_time(alloc: Global, name: &str) -> Stop {
+    let said = told(
+        alloc,
+        &[
+            Piece::Cut(name.as_bytes(), 200),
+            Piece::Bytes(
+                b": is no file, and a dump in which buses stand bit by bit is read twice\n    instead: write it to a file\n",
+            ),
+        ],
+    );
+    match said {
+        Ok(said) => Stop::Told(Fault::Read, said),
+        Err(_) => Stop::NoMemory,
     }
 }

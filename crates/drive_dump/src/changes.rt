@@ -196,6 +196,14 @@ impl Recording {
         None
     }
 
+    /// Whether the port at this place ever had a value.
+    pub fn has_value(&self, port: usize) -> bool {
+        match self.known.get(port) {
+            Some(Some(_)) => true,
+            _ => false,
+        }
+    }
+
     /// From when on each input is as the dump has it: a clock whose first value isn't written is x up to its first change. None: never.
     pub fn settled(&self) -> Option<u64> {
         let mut settled = self.first;

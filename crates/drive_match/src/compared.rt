@@ -9,7 +9,6 @@ use dump_match::DumpReference;
 use sched_core::setting::Grain;
 use scope_names::{RenamedDump, Renaming, renaming_of};
 use std::alloc::Global;
-use std::fs;
 use std::fs::File;
 use vcd_read::VcdFault;
 use vmachine::Machine;
@@ -17,6 +16,9 @@ use vrace::{Fault, Options, machine_of_files};
 
 // The most variables that are told.
 const TOLD: usize = 3;
+
+// The latest time that there is.
+const LAST_TIME: u64 = 4_611_686_018_427_387_903;
 
 /// Why nothing is compared.
 #[derive(Clone, Copy)]
@@ -60,14 +62,6 @@ fn renaming_for(alloc: Global, asked: &Asked<'_>) -> Result<Option<Renaming>, No
     match str::from_utf8(&word) {
         Err(_) => Ok(None),
         Ok(word) => renaming_of(alloc, word),
-    }
-}
-
-// Whether what has this name can be read a second time.
-fn is_file(rt: &HostRuntime, name: &str) -> bool {
-    match fs::metadata(rt, name) {
-        Ok(found) => found.is_file(),
-        Err(_) => false,
     }
 }
 
@@ -139,14 +133,8 @@ fn machine_of(alloc: Global, asked: &Asked<'_>) -> Result<Option<Machine>, NoMem
     }
 }
 
-// The latest time that there is.
-const LAST_TIME: u64 = 4_611_686_018_427_387_903;
-
 /// Compares the default order of the files with the dump: what each variable of the instance is at the end of each slot.
 pub fn compare(rt: &HostRuntime, asked: &Asked<'_>) -> Result<Answer, NoMemory> {
-    if !is_file(rt, asked.dump) {
-        return Ok(Answer::Not(NotCompared::Pipe));
-    }
     let Some(renaming) = renaming_for(rt.alloc(), asked)? else {
         return Ok(Answer::Not(NotCompared::Path));
     };
