@@ -352,7 +352,7 @@ static MATCH: [Row; 12] = [
     PROGRESS,
 ];
 
-static DRIVE: [Row; 9] = [
+static DRIVE: [Row; 11] = [
     Row {
         name: "vcd",
         takes: Takes::Needed("DUMP"),
@@ -406,6 +406,18 @@ static DRIVE: [Row; 9] = [
         takes: Takes::Word("TIME"),
         default: None,
         help: "The last time of the dump that is driven",
+    },
+    Row {
+        name: "steps",
+        takes: Takes::Number,
+        default: Some("10000000"),
+        help: "The most steps of the default order that are compared with the dump; 0 compares nothing",
+    },
+    Row {
+        name: "seconds",
+        takes: Takes::Number,
+        default: Some("10"),
+        help: "The most seconds that comparing it may take; 0 compares nothing",
     },
 ];
 
@@ -939,8 +951,8 @@ pub fn match_words_of<'a>(matches: &ArgMatches<'a>) -> MatchWords<'a> {
 }
 
 /// What the words after `drive` ask for: the dump and the scope in it, the module, its inputs that are clocks, those that have a process of
-/// their own and those that are declared with a value, values of parameters as `NAME=VALUE`, the times between which the dump is driven, and the
-/// file that is written.
+/// their own and those that are declared with a value, values of parameters as `NAME=VALUE`, the times between which the dump is driven, how many
+/// steps and seconds the comparison with the dump may take, and the file that is written.
 #[derive(Drop)]
 pub struct DriveWords<'a> {
     pub dump: &'a str,
@@ -952,6 +964,8 @@ pub struct DriveWords<'a> {
     pub parameters: Vec<&'a str>,
     pub from: Option<&'a str>,
     pub to: Option<&'a str>,
+    pub steps: u64,
+    pub seconds: u64,
     pub output: Option<&'a str>,
     /// None: standard input.
     pub files: Vec<&'a str>,
@@ -994,6 +1008,8 @@ pub fn drive_words_of<'a>(
         parameters: values_of(alloc, matches, "param")?,
         from: matches.get_str("from"),
         to: matches.get_str("to"),
+        steps: steps_of(matches),
+        seconds: matches.get_one::<u64>("seconds").unwrap_or(0),
         output: matches.get_str("output"),
         files: files_of(alloc, matches)?,
     })

@@ -4,14 +4,13 @@
 #![tactic(auto)]
 
 mod bench;
-mod changes;
-mod columns;
-mod dump;
-mod indices;
+mod comparing;
+mod differing;
 mod module;
 mod notes;
+mod reading;
 mod refused;
 mod scale;
-mod scopes;
+mod stops;
 
 pub use bench::drive_by;

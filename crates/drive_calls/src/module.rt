@@ -3,6 +3,7 @@
 use crate::refused::{refused_input, refused_parameter, refused_skeleton, told};
 use basis::{NoMemory, Timescale};
 use command_line::DriveWords;
+use drive_dump::{DrivenModule, is_among};
 use drive_ports::{Edges, ModulePort, Modules, edges_of, modules_of_files};
 use drive_text::{DrivenPort, Parameter, Role, fresh_name, skeleton_text};
 use program_base::Stop;
@@ -10,32 +11,7 @@ use race_words::{Piece, put, put_all};
 use sched_core::setting::Grain;
 use std::alloc::Global;
 use vdesign::design::Design;
-use vrace::{Fault, Options, machine_of_files};
-
-/// A module that is driven.
-#[derive(Drop)]
-pub(crate) struct DrivenModule {
-    pub name: Vec<u8>,
-    pub top: Vec<u8>,
-    pub instance: Vec<u8>,
-    pub parameters: Vec<Parameter>,
-    pub ports: Vec<DrivenPort>,
-    /// Of each port, which edges of it are heard.
-    pub edges: Vec<Edges>,
-    /// Of each port, whether its leftmost bit has the lowest number.
-    pub ascends: Vec<bool>,
-    pub scale: Timescale,
-}
-
-impl DrivenModule {
-    /// How many inputs it has.
-    pub(crate) fn inputs(&self) -> usize {
-        self.ports
-            .iter()
-            .filter(|port| port.role != Role::Output)
-            .count()
-    }
-}
+use vrace::{At, Fault, Options, machine_of_files};
 
 // The options by which files are read.
 fn options_of<'a>(top: Option<&'a [u8]>) -> Result<Options<'a>, Fault> {
@@ -128,16 +104,6 @@ fn named_module(
         ascends: Vec::new(alloc),
         scale: Timescale::usual(),
     })
-}
-
-// Whether the name stands among these words.
-fn is_among(words: &[&str], name: &[u8]) -> bool {
-    for word in words {
-        if word.as_bytes() == name {
-            return true;
-        }
-    }
-    false
 }
 
 // What becomes of a port.
@@ -303,7 +269,7 @@ pub(crate) fn module_of(
 ) -> Result<DrivenModule, Stop> {
     let name = top_of(alloc, texts, words.top)?;
     let Some(modules) = modules_of_files(alloc, texts, &name)? else {
-        return Err(Stop::NoMemory);
+        return Err(Stop::Refused(Fault::NoTree(At(None))));
     };
     let mut module = named_module(alloc, name, &modules, words)?;
     read_module(alloc, texts, &mut module, &modules, words)?;

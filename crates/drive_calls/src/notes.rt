@@ -1,9 +1,7 @@
 // What is to be known of a testbench, on standard error.
 
-use crate::changes::Recording;
-use crate::columns::InputColumns;
-use crate::module::DrivenModule;
 use basis::{NoMemory, Span};
+use drive_dump::{DrivenModule, InputColumns, Recording};
 use drive_text::Role;
 use race_words::pieces::string_of;
 use race_words::{Piece, put_all};
@@ -12,9 +10,9 @@ use std::alloc::Global;
 // The most letters of a name that is told.
 const LETTERS: usize = 200;
 
-// A time, in so many of which units.
+/// A time, in so many of which units.
 #[derive(Clone, Copy)]
-struct ToldTime {
+pub(crate) struct ToldTime {
     time: u64,
     unit: Span,
 }
@@ -28,8 +26,8 @@ pub(crate) struct ToldUnits {
 }
 
 impl ToldUnits {
-    // The time, in the longer unit where it is a whole number of them.
-    fn time(self, time: u64) -> ToldTime {
+    /// The time, in the longer unit where it is a whole number of them.
+    pub(crate) fn time(self, time: u64) -> ToldTime {
         if time.checked_rem(self.parts) == Some(0) {
             return ToldTime {
                 time: time.checked_div(self.parts).unwrap_or(0),
@@ -44,31 +42,37 @@ impl ToldUnits {
 }
 
 impl ToldTime {
-    // As a number of its unit.
-    fn number(self) -> u64 {
+    /// As a number of its unit.
+    pub(crate) fn number(self) -> u64 {
         self.time
             .saturating_mul(u64::from(self.unit.count.number()))
     }
 
-    // The word of its unit.
-    fn word(self) -> &'static [u8] {
+    /// The word of its unit.
+    pub(crate) fn word(self) -> &'static [u8] {
         self.unit.unit.name().as_bytes()
     }
 }
 
-// Each input that the dump doesn't have.
+// Each input of which the dump has no value.
 fn put_missing(
     text: &mut Vec<u8>,
     module: &DrivenModule,
     columns: &[InputColumns],
+    recording: &Recording,
 ) -> Result<(), NoMemory> {
-    for (port, column) in module.ports.iter().zip(columns.iter()) {
-        if port.role != Role::Output && !column.are_some() {
+    for (place, port) in module.ports.iter().enumerate() {
+        if port.role != Role::Output && !recording.has_value(place) {
+            let why: &[u8] = match columns.get(place) {
+                Some(column) if column.are_some() => b" has no value in the dump",
+                _ => b" isn't in the dump",
+            };
             put_all(
                 text,
                 &[
                     Piece::Cut(&port.name, LETTERS),
-                    Piece::Bytes(b" isn't in the dump: it is x throughout\n"),
+                    Piece::Bytes(why),
+                    Piece::Bytes(b": it is x throughout\n"),
                 ],
             )?;
         }
@@ -179,7 +183,7 @@ pub(crate) fn notes(
 ) -> Result<String, NoMemory> {
     let mut text = Vec::new(alloc);
     put_begin(&mut text, units.time(recording.first))?;
-    put_missing(&mut text, module, columns)?;
+    put_missing(&mut text, module, columns, recording)?;
     put_clockless(&mut text, module)?;
     put_still(&mut text, module, recording)?;
     put_collisions(&mut text, module, recording, units)?;

@@ -1,8 +1,7 @@
 // Refusals of a call that drives a module, in words.
 
-use crate::module::DrivenModule;
-use crate::scopes::PortScopes;
 use basis::NoMemory;
+use drive_dump::{DrivenModule, PortScopes};
 use drive_text::{Parameter, Role};
 use program_base::Stop;
 use race_words::{Piece, put, put_all};

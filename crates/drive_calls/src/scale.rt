@@ -93,6 +93,11 @@ impl DumpUnits {
         parts_of(self.scale.precision, self.shown)
     }
 
+    /// How many of the shown units make one of this timescale's precision.
+    pub(crate) fn parts_of_precision(self, scale: Timescale) -> u64 {
+        parts_of(scale.precision, self.shown)
+    }
+
     /// How many of the shown units make one of this timescale.
     pub(crate) fn of_unit(self, scale: Timescale) -> u64 {
         parts_of(scale.unit, self.shown)

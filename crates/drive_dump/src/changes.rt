@@ -2,12 +2,11 @@
 
 use crate::columns::InputColumns;
 use crate::dump::OpenDump;
-use crate::module::DrivenModule;
-use crate::refused::too_long;
+use crate::fault::DriveFault;
+use crate::module::{DrivenModule, is_among};
 use basis::NoMemory;
 use drive_ports::Edges;
 use drive_text::{Change, MOST_BYTES, Role};
-use program_base::Stop;
 use std::alloc::Global;
 use vbits::Vec4;
 
@@ -16,7 +15,7 @@ const FEWEST: usize = 12;
 
 /// An input that a process hears as a reset, and a clock: they change at one time.
 #[derive(Clone, Copy)]
-pub(crate) struct Collision {
+pub struct Collision {
     pub input: usize,
     pub clock: usize,
     pub time: u64,
@@ -24,11 +23,13 @@ pub(crate) struct Collision {
 
 /// What was read of a dump: the changes, the first and the last time, and which resets change with a clock.
 #[derive(Drop)]
-pub(crate) struct Recording {
+pub struct Recording {
     pub changes: Vec<Change>,
     pub first: u64,
     pub last: u64,
     pub collisions: Vec<Collision>,
+    /// The clocks whose first value isn't written.
+    pub unwritten: Vec<usize>,
     known: Vec<Option<Vec4>>,
     is_begun: bool,
 }
@@ -57,6 +58,7 @@ impl Recording {
             first,
             last: first,
             collisions: Vec::new(alloc),
+            unwritten: Vec::new(alloc),
             known,
             is_begun: false,
         })
@@ -74,14 +76,24 @@ impl Recording {
     }
 
     // A change more.
-    fn push(&mut self, alloc: Global, time: u64, port: usize, value: Vec4) -> Result<(), Stop> {
+    fn put(&mut self, change: Change) -> Result<(), NoMemory> {
+        self.changes.push(change)?;
+        Ok(())
+    }
+
+    // The same, where there may be one more.
+    fn push(&mut self, time: u64, port: usize, value: Vec4) -> Result<(), DriveFault> {
         if self.changes.len() >= MOST_BYTES / FEWEST {
-            return Err(too_long(alloc));
+            return Err(DriveFault::TooLong);
         }
-        match self.changes.push(Change { time, port, value }) {
-            Ok(()) => Ok(()),
-            Err(_) => Err(Stop::NoMemory),
-        }
+        self.put(Change { time, port, value })?;
+        Ok(())
+    }
+
+    // A clock whose first value isn't written.
+    fn leave(&mut self, clock: usize) -> Result<(), NoMemory> {
+        self.unwritten.push(clock)?;
+        Ok(())
     }
 
     // Takes what is shown as what inputs are worth.
@@ -94,11 +106,10 @@ impl Recording {
     // The first value of a port: it is declared, or a change at the first time.
     fn begin_port(
         &mut self,
-        alloc: Global,
         module: &mut DrivenModule,
         port: usize,
         declared: &[&str],
-    ) -> Result<(), Stop> {
+    ) -> Result<(), DriveFault> {
         let (Some(Some(value)), Some(driven)) = (
             self.known.get(port).copied(),
             module.ports.get_mut(port),
@@ -109,34 +120,30 @@ impl Recording {
             return Ok(());
         }
         let is_declared = is_among(declared, &driven.name);
-        if driven.role == Role::Clock && !is_declared {
-            let edges = module.edges.get(port).copied();
-            driven.start = match edges {
-                Some(edges) if is_heard(edges, value) => None,
-                _ => Some(value),
-            };
+        let is_clock = driven.role == Role::Clock;
+        let is_edge = match module.edges.get(port) {
+            Some(edges) => is_heard(*edges, value),
+            None => false,
+        };
+        if is_clock && !is_declared && is_edge {
+            self.leave(port)?;
             return Ok(());
         }
-        if is_declared {
+        if is_clock || is_declared {
             driven.start = Some(value);
             return Ok(());
         }
-        self.push(alloc, self.first, port, value)
+        self.push(self.first, port, value)
     }
 
     // The first values of all ports.
-    fn begin(
-        &mut self,
-        alloc: Global,
-        module: &mut DrivenModule,
-        declared: &[&str],
-    ) -> Result<(), Stop> {
+    fn begin(&mut self, module: &mut DrivenModule, declared: &[&str]) -> Result<(), DriveFault> {
         if self.is_begun {
             return Ok(());
         }
         self.is_begun = true;
         for port in 0..module.ports.len() {
-            self.begin_port(alloc, module, port, declared)?;
+            self.begin_port(module, port, declared)?;
         }
         Ok(())
     }
@@ -144,17 +151,16 @@ impl Recording {
     // The changes of clocks at this time, or those of the others.
     fn take(
         &mut self,
-        alloc: Global,
         dump: &OpenDump,
         module: &DrivenModule,
         columns: &[InputColumns],
         time: u64,
         are_clocks: bool,
-    ) -> Result<(), Stop> {
+    ) -> Result<(), DriveFault> {
         for (port, column) in columns.iter().enumerate() {
-            if has_role(module, port, are_clocks) {
+            if module.has_role(port, are_clocks) {
                 if let Some(value) = self.news(port, column.value(dump)) {
-                    self.push(alloc, time, port, value)?;
+                    self.push(time, port, value)?;
                 }
             }
         }
@@ -180,6 +186,33 @@ impl Recording {
         None
     }
 
+    // When the port changes first.
+    fn first_change(&self, port: usize) -> Option<u64> {
+        for change in &self.changes {
+            if change.port == port {
+                return Some(change.time);
+            }
+        }
+        None
+    }
+
+    /// Whether the port at this place ever had a value.
+    pub fn has_value(&self, port: usize) -> bool {
+        match self.known.get(port) {
+            Some(Some(_)) => true,
+            _ => false,
+        }
+    }
+
+    /// From when on each input is as the dump has it: a clock whose first value isn't written is x up to its first change. None: never.
+    pub fn settled(&self) -> Option<u64> {
+        let mut settled = self.first;
+        for clock in &self.unwritten {
+            settled = settled.max(self.first_change(*clock)?);
+        }
+        Some(settled)
+    }
+
     // Whether such a collision is known of the input.
     fn has_collision(&self, input: usize) -> bool {
         for collision in &self.collisions {
@@ -197,7 +230,7 @@ impl Recording {
         };
         for at in from..self.changes.len() {
             let change = self.changes[at];
-            if is_posted_reset(module, change.port) && !self.has_collision(change.port) {
+            if module.is_posted_reset(change.port) && !self.has_collision(change.port) {
                 self.collisions.push(Collision {
                     input: change.port,
                     clock,
@@ -211,69 +244,42 @@ impl Recording {
     // The slot that is shown, at this time.
     fn take_slot(
         &mut self,
-        alloc: Global,
         dump: &OpenDump,
         module: &mut DrivenModule,
         columns: &[InputColumns],
         time: u64,
         declared: &[&str],
-    ) -> Result<(), Stop> {
+    ) -> Result<(), DriveFault> {
         self.last = time;
         if time <= self.first {
             self.note(dump, columns);
             return Ok(());
         }
-        self.begin(alloc, module, declared)?;
+        self.begin(module, declared)?;
         let from = self.changes.len();
-        self.take(alloc, dump, module, columns, time, true)?;
-        self.take(alloc, dump, module, columns, time, false)?;
+        self.take(dump, module, columns, time, true)?;
+        self.take(dump, module, columns, time, false)?;
         self.collide(module, from)?;
         Ok(())
     }
 }
 
-// Whether the name stands among these words.
-fn is_among(words: &[&str], name: &[u8]) -> bool {
-    for word in words {
-        if word.as_bytes() == name {
-            return true;
-        }
-    }
-    false
-}
-
-// Whether the port is a clock, or another input.
-fn has_role(module: &DrivenModule, port: usize, is_clock: bool) -> bool {
-    match module.ports.get(port) {
-        None => false,
-        Some(port) => port.role != Role::Output && (port.role == Role::Clock) == is_clock,
-    }
-}
-
-// Whether the port is posted, and a process hears it as a reset.
-fn is_posted_reset(module: &DrivenModule, port: usize) -> bool {
-    match (module.ports.get(port), module.edges.get(port)) {
-        (Some(port), Some(edges)) => port.role == Role::Posted && edges.read,
-        _ => false,
-    }
-}
-
 /// The times of a dump that are driven, as they are shown; and which inputs are declared with their first values.
 #[derive(Clone, Copy)]
-pub(crate) struct Window<'a> {
+pub struct Window<'a> {
     pub from: u64,
     pub to: u64,
     pub declared: &'a [&'a str],
 }
 
 /// What changes at the inputs of a module within a window of a dump, of which nothing is shown yet; none where the dump has no time.
-pub(crate) fn record(
+pub fn record(
     alloc: Global,
     dump: &mut OpenDump,
     module: &mut DrivenModule,
     columns: &[InputColumns],
     window: Window<'_>,
-) -> Result<Option<Recording>, Stop> {
+) -> Result<Option<Recording>, DriveFault> {
     let Some(first) = dump.next_time() else {
         return Ok(None);
     };
@@ -283,12 +289,12 @@ pub(crate) fn record(
         let time = match dump.next_time() {
             Some(time) if time <= window.to => time,
             _ => {
-                recording.begin(alloc, module, window.declared)?;
+                recording.begin(module, window.declared)?;
                 return Ok(Some(recording));
             }
         };
         dump.advance(alloc)?;
-        recording.take_slot(alloc, dump, module, columns, time, window.declared)?;
+        recording.take_slot(dump, module, columns, time, window.declared)?;
     }
     Ok(Some(recording))
 }

@@ -10,7 +10,7 @@ use vcd_read::VcdVariable;
 use vcd_slots::Columns;
 
 /// Columns of a dump of which nothing is read yet.
-pub(crate) struct Watched {
+pub struct Watched {
     columns: Columns,
     ghost sound: { IsSound columns },
     ghost fresh: { IsFresh columns },
@@ -24,7 +24,7 @@ impl Drop for Watched {
 
 impl Watched {
     /// None.
-    pub(crate) fn none(alloc: Global) -> Watched {
+    pub fn none(alloc: Global) -> Watched {
         Watched {
             columns: Columns::new(alloc),
         }
@@ -42,7 +42,7 @@ impl Watched {
     }
 
     /// The columns.
-    pub(crate) fn into_columns(self) -> Columns
+    pub fn into_columns(self) -> Columns
         ensures sound { IsSound result }
         ensures fresh { IsFresh result }
     {
@@ -53,7 +53,7 @@ impl Watched {
 
 /// The columns of an input: one of its whole width, or one for each of its bits, the leftmost first; none where the dump doesn't have it.
 #[derive(Drop)]
-pub(crate) struct InputColumns {
+pub struct InputColumns {
     list: Vec<usize>,
 }
 
@@ -67,7 +67,7 @@ fn joined(left: Vec4, right: Vec4) -> Option<Vec4> {
 
 impl InputColumns {
     /// Those of the variables at these places, which are followed.
-    pub(crate) fn of(
+    pub fn of(
         alloc: Global,
         watched: Watched,
         variables: &[VcdVariable],
@@ -88,12 +88,12 @@ impl InputColumns {
     }
 
     /// Whether the dump has the input.
-    pub(crate) fn are_some(&self) -> bool {
+    pub fn are_some(&self) -> bool {
         !self.list.is_empty()
     }
 
     /// What the input is worth in what is shown, if that is known.
-    pub(crate) fn value(&self, dump: &OpenDump) -> Option<Vec4> {
+    pub fn value(&self, dump: &OpenDump) -> Option<Vec4> {
         let (first, rest) = self.list.split_first()?;
         let mut value = dump.value(*first)?;
         for column in rest {

@@ -25,7 +25,7 @@ enum State {
 
 /// The number of each variable that is one bit of a bus, in the order of the declarations.
 #[derive(Drop)]
-pub(crate) struct Indices {
+pub struct Indices {
     list: Vec<Option<u64>>,
     word: Vec<u8>,
     index: Option<u64>,
@@ -120,7 +120,7 @@ impl Indices {
     }
 
     /// Those of a dump, as far as it can be read: it was read once already.
-    pub(crate) fn of(alloc: Global, reader: &mut Metered<File>) -> Result<Indices, NoMemory> {
+    pub fn of(alloc: Global, reader: &mut Metered<File>) -> Result<Indices, NoMemory> {
         let mut indices = Indices::none(alloc);
         let mut piece = [0; PIECE];
         for _ in 0..u64::MAX {
@@ -135,7 +135,7 @@ impl Indices {
     }
 
     /// The number of the variable at this place.
-    pub(crate) fn at(&self, place: usize) -> Option<u64> {
+    pub fn at(&self, place: usize) -> Option<u64> {
         self.list.get(place).copied().unwrap_or(None)
     }
 }

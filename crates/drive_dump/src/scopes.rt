@@ -18,14 +18,14 @@ struct Tally {
 
 /// A scope: its path, and what it has of which ports.
 #[derive(Drop)]
-pub(crate) struct PortScope {
+pub struct PortScope {
     pub path: Vec<u8>,
     tallies: Vec<Tally>,
 }
 
 /// What a scope has of a port.
 #[derive(Clone, Copy, PartialEq, Eq)]
-pub(crate) enum Had {
+pub enum Had {
     Nothing,
     /// The variable at this place.
     Whole(usize),
@@ -64,7 +64,7 @@ impl PortScope {
     }
 
     /// What it has of the port at this place, which has so many bits.
-    pub(crate) fn had(&self, port: usize, width: u32) -> Had {
+    pub fn had(&self, port: usize, width: u32) -> Had {
         match self.tally(port) {
             None => Had::Nothing,
             Some(tally) if tally.width == u64::from(width) => Had::Whole(tally.first),
@@ -88,7 +88,7 @@ impl PortScope {
 
 /// The scopes of a dump that have a variable with the name of a port.
 #[derive(Drop)]
-pub(crate) struct PortScopes {
+pub struct PortScopes {
     pub list: Vec<PortScope>,
     places: BTreeMap<Vec<u8>, usize>,
 }
@@ -152,7 +152,7 @@ impl PortScopes {
     }
 
     /// Those of these variables of a dump.
-    pub(crate) fn of(
+    pub fn of(
         alloc: Global,
         variables: &[VcdVariable],
         module: &DrivenModule,
@@ -172,7 +172,7 @@ impl PortScopes {
     }
 
     /// The place of the scope of this path.
-    pub(crate) fn named(&self, path: &[u8]) -> Option<usize> {
+    pub fn named(&self, path: &[u8]) -> Option<usize> {
         self.places.get(path).copied()
     }
 
@@ -203,11 +203,7 @@ impl PortScopes {
     }
 
     /// The places of those that come nearest to the module: those that have the most inputs.
-    pub(crate) fn nearest(
-        &self,
-        alloc: Global,
-        module: &DrivenModule,
-    ) -> Result<Vec<usize>, NoMemory> {
+    pub fn nearest(&self, alloc: Global, module: &DrivenModule) -> Result<Vec<usize>, NoMemory> {
         self.having(alloc, module, false, self.most(module))
     }
 
@@ -238,11 +234,7 @@ impl PortScopes {
 
     /// The places of those that the module may be: they have each input; where several do, those with each port; and of those, those that have
     /// none of them in them.
-    pub(crate) fn candidates(
-        &self,
-        alloc: Global,
-        module: &DrivenModule,
-    ) -> Result<Vec<usize>, NoMemory> {
+    pub fn candidates(&self, alloc: Global, module: &DrivenModule) -> Result<Vec<usize>, NoMemory> {
         let all = self.having(alloc, module, false, module.inputs())?;
         if all.len() < 2 {
             return Ok(all);

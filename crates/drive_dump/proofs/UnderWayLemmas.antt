@@ -2,7 +2,7 @@
 use Rattle.std.proofs.Common.{◌≡◌, ℕ, ◌<◌, Option, Some, None, refl, subst}
 use Rattle.vcd_slots.specs.Standing.{IsLater, IsReady}
 use Rattle.vcd_slots.specs.declared.slots.DumpSlots.{DumpSlots}
-use Rattle.drive_calls.specs.UnderWay.{IsUnderWay}
+use Rattle.drive_dump.specs.UnderWay.{IsUnderWay}
 
 later_by : (time ahead : Option ℕ) → ((shown next : ℕ) → time ≡ Some shown → ahead ≡ Some next → shown < next) → IsLater time ahead
 later_by None None h = tt
