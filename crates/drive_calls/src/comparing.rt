@@ -117,6 +117,7 @@ impl ToCompare {
             instance: &self.instance,
             posted: self.posted_input(),
             from,
+            knows_all: self.knows_all,
             parts: self.parts,
             units,
             steps: words.steps,

@@ -14,8 +14,8 @@ const LETTERS: usize = 200;
 const REASON: &[u8] =
     b": the simulator took a race the other way there, or a parameter has another value (--param)";
 
-/// What is compared: the dump, the scope in it, the testbench's module and the instance in it; an input that is posted at time 0, and the first
-/// time that is compared; how many of the units that are shown make one of the precision; and the limits.
+/// What is compared: the dump, the scope in it, the testbench's module and the instance in it; an input that is posted at time 0, the first time
+/// that is compared, and whether all inputs are known from the dump's beginning on; how many of the units that are shown make one of the precision; and the limits.
 #[derive(Clone, Copy)]
 pub(crate) struct Told<'a> {
     pub dump: &'a str,
@@ -24,6 +24,7 @@ pub(crate) struct Told<'a> {
     pub instance: &'a [u8],
     pub posted: Option<&'a [u8]>,
     pub from: u64,
+    pub knows_all: bool,
     pub parts: u64,
     pub units: ToldUnits,
     pub steps: u64,
@@ -71,6 +72,9 @@ impl Told<'_> {
     // What may be behind the first difference.
     fn put_reason(&self, text: &mut Vec<u8>, one: &Difference) -> Result<(), NoMemory> {
         put(text, REASON)?;
+        if !self.knows_all {
+            return put(text, b", or it comes of what is x at the beginning");
+        }
         match self.posted {
             Some(input) if one.time <= self.from => put_all(
                 text,
