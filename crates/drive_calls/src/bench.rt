@@ -10,7 +10,7 @@ use crate::stops::stop_of_text;
 use basis::{NoMemory, Span, Timescale};
 use clap::ArgMatches;
 use command_line::{DriveWords, drive_words_of, has_dashed_drive};
-use drive_dump::DrivenModule;
+use drive_dump::{DrivenModule, Recording};
 use drive_text::{Change, Driven, driven_text};
 use output_files::{Outputs, Over, are_one};
 use program_base::{DASHED, Stop, texts, with_words, write_out};
@@ -74,8 +74,19 @@ fn driven_of(
     scale: Timescale,
     dump: &str,
 ) -> Result<Driven, NoMemory> {
-    let parts = read.units.of_unit(scale);
-    let mut changes = read.recording.changes;
+    let ReadDump {
+        recording,
+        scope,
+        units,
+        ..
+    } = read;
+    let Recording {
+        mut changes,
+        first,
+        last,
+        ..
+    } = recording;
+    let parts = units.of_unit(scale);
     scale_times(&mut changes, parts);
     Ok(Driven {
         module: module.name,
@@ -85,10 +96,10 @@ fn driven_of(
         ports: module.ports,
         changes,
         scale,
-        first: read.recording.first.checked_div(parts).unwrap_or(0),
-        last: rounded_up(read.recording.last, parts),
+        first: first.checked_div(parts).unwrap_or(0),
+        last: rounded_up(last, parts),
         dump: Vec::from_slice(alloc, dump.as_bytes())?,
-        scope: read.scope,
+        scope,
     })
 }
 

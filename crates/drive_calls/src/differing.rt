@@ -3,7 +3,7 @@
 use crate::notes::ToldUnits;
 use basis::{NoMemory, Span};
 use drive_match::{Answer, Compared, Difference, Extent, NotCompared};
-use race_words::pieces::string_of;
+use race_words::pieces::{put_cut, string_of};
 use race_words::{Piece, put, put_all};
 use std::alloc::Global;
 
@@ -52,21 +52,16 @@ impl Told<'_> {
     fn put_difference(&self, text: &mut Vec<u8>, one: &Difference) -> Result<(), NoMemory> {
         put(text, b"at ")?;
         self.put_time(text, one.time)?;
-        put_all(
-            text,
-            &[
-                Piece::Bytes(b" "),
-                Piece::Cut(self.scope, LETTERS),
-                Piece::Cut(self.inner(&one.name), LETTERS),
-                Piece::Bytes(b" is "),
-                Piece::Bytes(&one.told),
-                Piece::Bytes(b" in "),
-                Piece::Cut(self.dump.as_bytes(), LETTERS),
-                Piece::Bytes(b" and "),
-                Piece::Bytes(&one.value),
-                Piece::Bytes(b" in the default order"),
-            ],
-        )
+        put(text, b" ")?;
+        put_cut(text, self.scope, LETTERS)?;
+        put_cut(text, self.inner(&one.name), LETTERS)?;
+        put(text, b" is ")?;
+        put(text, &one.told)?;
+        put(text, b" in ")?;
+        put_cut(text, self.dump.as_bytes(), LETTERS)?;
+        put(text, b" and ")?;
+        put(text, &one.value)?;
+        put(text, b" in the default order")
     }
 
     // What may be behind the first difference.

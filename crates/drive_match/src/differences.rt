@@ -108,16 +108,17 @@ fn put_told(
     design: &Design,
     met: Met,
 ) -> Result<(), NoMemory> {
-    let Some(variable) = design.variables.get(met.differing.variable) else {
+    let Met { time, differing } = met;
+    let Some(variable) = design.variables.get(differing.variable) else {
         return Ok(());
     };
     let mut told = Vec::new(alloc);
-    put_value(&mut told, variable, met.differing.told)?;
+    put_value(&mut told, variable, differing.told)?;
     let mut value = Vec::new(alloc);
-    put_value(&mut value, variable, met.differing.value)?;
+    put_value(&mut value, variable, differing.value)?;
     let name = Vec::from_slice(alloc, &variable.name)?;
     list.push(Difference {
-        time: met.time,
+        time,
         name,
         told,
         value,

@@ -99,7 +99,7 @@ no_end_range (Some bounds) = (λ same. let first : 91 ≡ 36 = ap (λ (w : Text)
 no_end_name : (v : Variable) → declarations.name_of (identifier (own_name v)) ≡ own_name v → IsNoEnd (identifier (own_name v))
 no_end_name v whole same =
     let own : own_name v ≡ end_word = sym whole ∙ ap declarations.name_of same in
-    let first : 36 ≡ 92 = ap (λ (w : Text). get_or w 0 0) (sym same ∙ ap identifier own) in
+    let first : ◌≡◌ {A = ℕ} 36 92 = ap (λ (w : Text). get_or w 0 0) (sym same ∙ ap identifier own) in
     omega arith
 
 -- the name, its range, and the end
