@@ -70,6 +70,53 @@ def all_found_in(start, departures):
     return Found(ends, raced(shown), raced(printed), count, longest) if count <= MOST_RUNS else None
 
 
+# ---- what `races` compares (docs/RACES.md, "Slots that only one run has")
+
+@dataclass
+class ShownSlot:
+    """What a run shows from the end of a slot on, until it goes on to another time; none where it ends there."""
+    time: int
+    until: int
+    values: tuple
+    bag: tuple
+
+    def at(self, time):
+        """The values and lines that it shows at this time, if it does."""
+        if time == self.time:
+            return self.values, self.bag
+        return (self.values, ()) if self.time < time < self.until else None
+
+
+def shown_slots(run):
+    """What a run that has ended shows, slot by slot."""
+    ends = [(time, tuple(values), bag) for (time, values), bag in zip(slots(run), run.bags)]
+    later = [time for time, *_ in ends[1:]] + [run.time]
+    return [ShownSlot(time, until, values, bag) for (time, values, bag), until in zip(ends, later)]
+
+
+def shown_at(slots_shown, time):
+    return next((shown for slot in slots_shown if (shown := slot.at(time))), None)
+
+
+def differences_by_rule(made, grain, departures, until=UNTIL, holding=False):
+    """The times at which two runs of so many departures at most show other things, each with the place of a variable, or None for lines; None
+    where there are more runs, or longer ones, than are looked at."""
+    try:
+        start = Run(made, grain == "process", until, holding, True)
+        each = [shown_slots(run) for *_, run in islice(runs(start, departures), MOST_RUNS + 1)]
+    except Endless:
+        return None
+    if len(each) > MOST_RUNS:
+        return None
+    found = set()
+    for time in {slot.time for slots_shown in each for slot in slots_shown}:
+        shown = {one for slots_shown in each if (one := shown_at(slots_shown, time))}
+        found |= {(time, None)} if len({bag for _, bag in shown}) > 1 else set()
+        for place in range(len(made.start())):
+            found |= {(time, place)} if len({values[place] for values, _ in shown}) > 1 else set()
+    return found
+
+
 def end_of(run):
     """An end: its time, its cause, its values, and the lines of its slot where they are looked at."""
     return run.time, run.cause(), line_of(run.values), run.bag()

@@ -5,14 +5,13 @@ use Rattle.std.proofs.lemmas.Bool.Decides.{nat_tests}
 use Rattle.std.proofs.lemmas.Option.{same_Some}
 use Rattle.sched_core.specs.Logs.{IsLogFrom}
 use Rattle.sched_core.specs.Rules.{IsRun, choice_at}
-use Rattle.sched_core.proofs.RunLemmas.{IsLeft, choice_below}
+use Rattle.sched_core.proofs.RunLemmas.{IsLeft}
 use Rattle.vdesign.specs.Design.{Design}
 use Rattle.vmodel.specs.declared.choice.Choice.{Choice}
 use Rattle.vmodel.specs.declared.choice.Choice.TheVariants.{Run, Update, Advance}
-use Rattle.vmodel.specs.Effects.{Effect}
 use Rattle.vmodel.specs.State.{State}
 use Rattle.vmodel.specs.Choices.{choices}
-use Rattle.vmodel.specs.Step.{next}
+use Rattle.vmodel.specs.Step.{Transition, next}
 use Rattle.vmodel.specs.Run.{Setting, rules_of, opening_of, state_after}
 use Rattle.vmodel.specs.RunProgress.{opening_is}
 use Rattle.vmodel.proofs.TimesLemmas.{time_never_falls}
@@ -20,7 +19,7 @@ use Rattle.cause.specs.declared.checkpoint.Checkpoint.{Checkpoint}
 use Rattle.footprints.specs.declared.visit.Posted.{Posted}
 use Rattle.cause.specs.Checkpoints.{IsCheckpoint, IsCheckpointOf, AreCheckpoints}
 use Rattle.footprints.specs.Keeping.{due_from, Keeps}
-use Rattle.footprints.specs.Visits.{Seen, nothing_seen, is_due, due_at, place_by, acting_place, posted_by, with_visit, seen_by, seen_next, seen_after, choice_of, updates_after}
+use Rattle.footprints.specs.Visits.{Seen, nothing_seen, is_due, due_at, place_by, acting_place, posted_by, news_of, with_visit, with_waits, seen_by, seen_next, seen_after, choice_of, updates_after}
 
 -- ---- what is kept
 
@@ -48,12 +47,12 @@ due_kept time t (p ∷ posted) le = by_test (nat_lt (p.at + p.after) time) p tim
 pub keeps_due : (time : ℕ) (kept seen : Seen) → kept ≡ record seen { posted = due_from time seen.posted } → Keeps time kept seen
 keeps_due time kept seen is =
     let all : Keeps time (record seen { posted = due_from time seen.posted }) seen =
-    record { due = λ t le. due_kept time t seen.posted le; updates = refl; visits = refl } in
+    record { due = λ t le. due_kept time t seen.posted le; updates = refl; visits = refl; waits = refl } in
     subst (λ (s : Seen). Keeps time s seen) (sym is) all
 
 pub keeps_all : (time : ℕ) (kept seen : Seen) → kept ≡ seen → Keeps time kept seen
 keeps_all time kept seen is =
-    let all : Keeps time seen seen = record { due = λ t le. refl; updates = refl; visits = refl } in
+    let all : Keeps time seen seen = record { due = λ t le. refl; updates = refl; visits = refl; waits = refl } in
     subst (λ (s : Seen). Keeps time s seen) (sym is) all
 
 pub keeps_as : (time t : ℕ) (kept seen other : Seen) → Keeps t kept seen → t ≡ time → seen ≡ other → Keeps time kept other
@@ -64,6 +63,7 @@ keeps_then time one two three first second = record {
   due = λ t le. first.due t le ∙ second.due t le;
   updates = first.updates ∙ second.updates;
   visits = first.visits ∙ second.visits;
+  waits = first.waits ∙ second.waits;
 }
 
 same_place : (state : State) (kept seen : Seen) (c : Choice) → Keeps state.queue.time kept seen → place_by state kept c ≡ place_by state seen c
@@ -74,17 +74,20 @@ same_place state kept seen Update keeps =
 same_place state kept seen Advance keeps = refl
 
 -- a step more
-pub keeps_on : (design : Design) (s n : ℕ) (state : State) (c : Choice) (effect : Effect) (kept seen : Seen) (time : ℕ) → Keeps state.queue.time kept seen →
-    state.queue.time ≤ time → Keeps time (seen_by design s n state c effect kept) (seen_by design s n state c effect seen)
-keeps_on design s n state c effect kept seen time keeps later =
-    let posts : List Posted = posted_by state.queue.time (acting_place state c) effect.posted in
+pub keeps_on : (design : Design) (s n : ℕ) (state : State) (c : Choice) (step : Transition) (kept seen : Seen) (time : ℕ) → Keeps state.queue.time kept seen →
+    state.queue.time ≤ time → Keeps time (seen_by design s n state c step kept) (seen_by design s n state c step seen)
+keeps_on design s n state c step kept seen time keeps later =
+    let posts : List Posted = posted_by state.queue.time (acting_place state c) step.effect.posted in
     record {
       due = λ t le.
           due_at-append t kept.posted posts
           ∙ ap (λ (due : List ℕ). due ++ due_at t posts) (keeps.due t (omega (arith, later, le)))
           ∙ sym (due_at-append t seen.posted posts);
       updates = ap (updates_after c) keeps.updates;
-      visits = λ i. if nat_lt n s then keeps.visits i else with_visit design n c (same_place state kept seen c keeps i) effect (keeps.visits i);
+      visits = λ i. if nat_lt n s then keeps.visits i else
+          with_visit design n c (same_place state kept seen c keeps i) (news_of state step) (acting_place step.state c) step.effect (keeps.waits i) (keeps.visits i);
+      waits = λ i. if nat_lt n s then keeps.waits i else
+          with_waits design c (same_place state kept seen c keeps i) (news_of state step) (acting_place step.state c) step.effect (keeps.visits i) (keeps.waits i);
     }
 
 -- ---- what is left of a log
@@ -108,46 +111,65 @@ pub left_from : (n : ℕ) (log : List (ℕ × ℕ)) → IsLogFrom n log → IsLe
 left_from n log lawful = record { lawful = lawful; same = λ k le. refl; names = λ k le names. names; names_back = λ k names. names }
 
 -- before step s no visit is seen, and all else is seen alike
-pub early_next : (design : Design) (s t n : ℕ) (state : State) (c : Option Choice) (effect : Effect) (seen : Seen) → n < s → n < t →
-    seen_next design s n state c effect seen ≡ seen_next design t n state c effect seen
-early_next design s t n state None effect seen one other = refl
-early_next design s t n state (Some c) effect seen one other =
+pub early_next : (design : Design) (s t n : ℕ) (state : State) (c : Option Choice) (step : Transition) (seen : Seen) → n < s → n < t →
+    seen_next design s n state c step seen ≡ seen_next design t n state c step seen
+early_next design s t n state None step seen one other = refl
+early_next design s t n state (Some c) step seen one other =
     let is : nat_lt n s ≡ true = grind (arith, nat_tests, one) in
     let also : nat_lt n t ≡ true = grind (arith, nat_tests, other) in
     λ i. record {
-      posted = seen.posted ++ posted_by state.queue.time (acting_place state c) effect.posted;
+      posted = seen.posted ++ posted_by state.queue.time (acting_place state c) step.effect.posted;
       updates = updates_after c seen.updates;
-      visits = if (is ∙ sym also) i then seen.visits else with_visit design n c (place_by state seen c) effect seen.visits;
+      visits = if (is ∙ sym also) i then seen.visits else
+          with_visit design n c (place_by state seen c) (news_of state step) (acting_place step.state c) step.effect seen.waits seen.visits;
+      waits = if (is ∙ sym also) i then seen.waits else
+          with_waits design c (place_by state seen c) (news_of state step) (acting_place step.state c) step.effect seen.visits seen.waits;
     }
 
-early_visits : (design : Design) (s n : ℕ) (state : State) (c : Option Choice) (effect : Effect) (seen : Seen) → n < s →
-    (seen_next design s n state c effect seen).visits ≡ seen.visits
-early_visits design s n state None effect seen lt = refl
-early_visits design s n state (Some c) effect seen lt =
+early_visits : (design : Design) (s n : ℕ) (state : State) (c : Option Choice) (step : Transition) (seen : Seen) → n < s →
+    (seen_next design s n state c step seen).visits ≡ seen.visits
+early_visits design s n state None step seen lt = refl
+early_visits design s n state (Some c) step seen lt =
     let is : nat_lt n s ≡ true = grind (arith, nat_tests, lt) in
-    ap (λ (test : Bool). if test then seen.visits else with_visit design n c (place_by state seen c) effect seen.visits) is
+    ap (λ (test : Bool). if test then seen.visits else
+    with_visit design n c (place_by state seen c) (news_of state step) (acting_place step.state c) step.effect seen.waits seen.visits) is
+
+early_waits : (design : Design) (s n : ℕ) (state : State) (c : Option Choice) (step : Transition) (seen : Seen) → n < s →
+    (seen_next design s n state c step seen).waits ≡ seen.waits
+early_waits design s n state None step seen lt = refl
+early_waits design s n state (Some c) step seen lt =
+    let is : nat_lt n s ≡ true = grind (arith, nat_tests, lt) in
+    ap (λ (test : Bool). if test then seen.waits else
+    with_waits design c (place_by state seen c) (news_of state step) (acting_place step.state c) step.effect seen.visits seen.waits) is
 
 pub no_visits : (setting : Setting) (log : List (ℕ × ℕ)) (s n : ℕ) → n ≤ s → (seen_after setting log s n).visits ≡ []
 no_visits setting log s zero le = refl
 no_visits setting log s (suc n) le =
     early_visits setting.design s n (state_after setting log n) (choice_of setting log n)
-    (next setting.design (state_after setting log n) (choice_at log n)).effect (seen_after setting log s n) (omega (arith, le))
+    (next setting.design (state_after setting log n) (choice_at log n)) (seen_after setting log s n) (omega (arith, le))
     ∙ no_visits setting log s n (omega (arith, le))
 
+no_waits : (setting : Setting) (log : List (ℕ × ℕ)) (s n : ℕ) → n ≤ s → (seen_after setting log s n).waits ≡ []
+no_waits setting log s zero le = refl
+no_waits setting log s (suc n) le =
+    early_waits setting.design s n (state_after setting log n) (choice_of setting log n)
+    (next setting.design (state_after setting log n) (choice_at log n)) (seen_after setting log s n) (omega (arith, le))
+    ∙ no_waits setting log s n (omega (arith, le))
+
 -- what else is seen is the same from whatever step on visits are
-rest_next : (design : Design) (s t n : ℕ) (state : State) (c : Option Choice) (effect : Effect) (one other : Seen) → one.posted ≡ other.posted →
-    one.updates ≡ other.updates → ((seen_next design s n state c effect one).posted ≡ (seen_next design t n state c effect other).posted)
-    × ((seen_next design s n state c effect one).updates ≡ (seen_next design t n state c effect other).updates)
-rest_next design s t n state None effect one other posts counts = (posts, counts)
-rest_next design s t n state (Some c) effect one other posts counts =
-    (ap (λ (posted : List Posted). posted ++ posted_by state.queue.time (acting_place state c) effect.posted) posts, ap (updates_after c) counts)
+rest_next : (design : Design) (s t n : ℕ) (state : State) (c : Option Choice) (step : Transition) (one other : Seen) → one.posted ≡ other.posted →
+    one.updates ≡ other.updates → ((seen_next design s n state c step one).posted ≡ (seen_next design t n state c step other).posted)
+    × ((seen_next design s n state c step one).updates ≡ (seen_next design t n state c step other).updates)
+rest_next design s t n state None step one other posts counts = (posts, counts)
+rest_next design s t n state (Some c) step one other posts counts =
+    (ap (λ (posted : List Posted). posted ++ posted_by state.queue.time (acting_place state c) step.effect.posted) posts, ap (updates_after c) counts)
 
 rest_same : (setting : Setting) (log : List (ℕ × ℕ)) (s t n : ℕ) → ((seen_after setting log s n).posted ≡ (seen_after setting log t n).posted)
     × ((seen_after setting log s n).updates ≡ (seen_after setting log t n).updates)
 rest_same setting log s t zero = (refl, refl)
 rest_same setting log s t (suc n) =
     let before = rest_same setting log s t n in
-    rest_next setting.design s t n (state_after setting log n) (choice_of setting log n) (next setting.design (state_after setting log n) (choice_at log n)).effect
+    rest_next setting.design s t n (state_after setting log n) (choice_of setting log n) (next setting.design (state_after setting log n) (choice_at log n))
     (seen_after setting log s n) (seen_after setting log t n) before.0 before.1
 
 -- up to a step it is the same from whatever later step on visits are seen
@@ -155,22 +177,23 @@ pub seen_early : (setting : Setting) (log : List (ℕ × ℕ)) (s t n : ℕ) →
 seen_early setting log s t zero one other = refl
 seen_early setting log s t (suc n) one other =
     ap (seen_next setting.design s n (state_after setting log n) (choice_of setting log n)
-    (next setting.design (state_after setting log n) (choice_at log n)).effect) (seen_early setting log s t n (omega (arith, one)) (omega (arith, other)))
+    (next setting.design (state_after setting log n) (choice_at log n))) (seen_early setting log s t n (omega (arith, one)) (omega (arith, other)))
     ∙ early_next setting.design s t n (state_after setting log n) (choice_of setting log n)
-    (next setting.design (state_after setting log n) (choice_at log n)).effect (seen_after setting log t n) (omega (arith, one)) (omega (arith, other))
+    (next setting.design (state_after setting log n) (choice_at log n)) (seen_after setting log t n) (omega (arith, one)) (omega (arith, other))
 
 -- without its visits it is what is seen where they are looked for later
 pub keeps_none : (setting : Setting) (log : List (ℕ × ℕ)) (s t n time : ℕ) (kept : Seen) → Keeps time kept (seen_after setting log s n) → n ≤ t →
-    Keeps time (record kept { visits = [] }) (seen_after setting log t n)
+    Keeps time (record kept { visits = []; waits = [] }) (seen_after setting log t n)
 keeps_none setting log s t n time kept keeps le = record {
   due = λ u later. keeps.due u later ∙ ap (due_at u) (rest_same setting log s t n).0;
   updates = keeps.updates ∙ (rest_same setting log s t n).1;
   visits = sym (no_visits setting log t n le);
+  waits = sym (no_waits setting log t n le);
 }
 
 -- what is seen after a step, by where it is taken
 abbrev pub seen_at : Setting → ℕ → ℕ → State → ℕ → Seen → Seen
-seen_at setting s n state index seen = seen_next setting.design s n state (slice_get (choices state) index) (next setting.design state index).effect seen
+seen_at setting s n state index seen = seen_next setting.design s n state (slice_get (choices state) index) (next setting.design state index) seen
 
 -- ---- checkpoints
 
@@ -185,15 +208,15 @@ opened_is setting state seen at none = record {
 }
 
 pub copied_is : (setting : Setting) (log : List (ℕ × ℕ)) (checkpoint : Checkpoint) (state : State) (seen : Seen) → IsCheckpointOf setting log checkpoint →
-    state ≡ checkpoint.state → seen ≡ record checkpoint.seen { visits = [] } →
+    state ≡ checkpoint.state → seen ≡ record checkpoint.seen { visits = []; waits = [] } →
     IsCheckpointOf setting log (record { step = checkpoint.step; state = state; seen = seen })
 copied_is setting log checkpoint state seen is same copied =
     let P : State → Seen → Type 0 = λ t u. IsCheckpointOf setting log (record { step = checkpoint.step; state = t; seen = u }) in
     let n : ℕ = checkpoint.step in
-    let old : P checkpoint.state (record checkpoint.seen { visits = [] }) = record {
+    let old : P checkpoint.state (record checkpoint.seen { visits = []; waits = [] }) = record {
       run = is.run;
       state = is.state;
-      seen = record { due = is.seen.due; updates = is.seen.updates; visits = sym (no_visits setting log n n (omega arith)) };
+      seen = record { due = is.seen.due; updates = is.seen.updates; visits = sym (no_visits setting log n n (omega arith)); waits = sym (no_waits setting log n n (omega arith)) };
       few = is.few;
       begins = is.begins;
     } in

@@ -1,5 +1,6 @@
 pub mod AgreeLemmas
 pub mod BehindLemmas
+pub mod BlockLemmas
 pub mod CheckpointLemmas
 pub mod ParentLemmas
 pub mod RestLemmas

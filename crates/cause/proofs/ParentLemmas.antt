@@ -6,7 +6,7 @@ use Rattle.std.proofs.lemmas.Result.{IfOk-weaker}
 use Rattle.sched_core.specs.Rules.{choice_at}
 use Rattle.vmodel.specs.State.{State}
 use Rattle.vmodel.specs.Run.{Setting, rules_of, state_after}
-use Rattle.vdesign.specs.declared.action.Action.{Action}
+use Rattle.vdesign.specs.Design.{Design}
 use Rattle.cause.specs.declared.cause.Cause.{Cause}
 use Rattle.cause.specs.declared.slot.Slot.{Slot}
 use Rattle.cause.specs.Causes.{AreEarlier, AreVisits, IsCause, IsCauseIn, parent_of, step_named, last_step}
@@ -50,13 +50,13 @@ same_before setting log s e =
 abbrev are_seen : Setting → List (ℕ × ℕ) → ℕ → Slot → Type 0
 are_seen setting log s slot = AreEarlier setting log s slot.earlier.items × AreVisits setting log s slot.visits.items
 
-abbrev is_told : List Action → ℕ → Slot → Slot → Cause → Type 0
-is_told actions step run parent = IsCauseIn actions step run.earlier.items run.visits.items parent.earlier.items parent.visits.items
+abbrev is_told : Design → ℕ → Slot → Slot → Cause → Type 0
+is_told design step run parent = IsCauseIn design step run.earlier.items run.visits.items parent.earlier.items parent.visits.items
 
-pub is_cause : (setting : Setting) (log parent_log : List (ℕ × ℕ)) (step : ℕ) (actions : List Action) (run parent : Slot) (cause : Cause) →
-    last_step log ≡ Some step → parent_log ≡ parent_of log → actions ≡ setting.design.actions → are_seen setting log step run →
-    are_seen setting parent_log step parent → is_told actions step run parent cause → IsCause setting log cause
-is_cause setting log parent_log step actions run parent cause named_so parent_is actions_are ours theirs told =
+pub is_cause : (setting : Setting) (log parent_log : List (ℕ × ℕ)) (step : ℕ) (design : Design) (run parent : Slot) (cause : Cause) →
+    last_step log ≡ Some step → parent_log ≡ parent_of log → design ≡ setting.design → are_seen setting log step run →
+    are_seen setting parent_log step parent → is_told design step run parent cause → IsCause setting log cause
+is_cause setting log parent_log step design run parent cause named_so parent_is design_is ours theirs told =
     let same : cause.step ≡ step = ap (λ (c : Cause). c.step) told.told in
     let there : are_seen setting (parent_of log) step parent = subst (λ (l : List (ℕ × ℕ)). are_seen setting l step parent) parent_is theirs in
     let is : last_step log ≡ Some cause.step = named_so ∙ ap Some (sym same) in
@@ -73,15 +73,15 @@ is_cause setting log parent_log step actions run parent cause named_so parent_is
       before_parent = other.0;
       parent = parent.visits.items;
       of_parent = other.1;
-      is = subst (λ (list : List Action). is_told list cause.step run parent cause) actions_are
-          (subst (λ (s : ℕ). is_told actions s run parent cause) (sym same) told);
+      is = subst (λ (d : Design). is_told d cause.step run parent cause) design_is
+          (subst (λ (s : ℕ). is_told design s run parent cause) (sym same) told);
     }
 
-pub caused : {E : Type 0} (setting : Setting) (log parent_log : List (ℕ × ℕ)) (step : ℕ) (actions : List Action) (run parent : Slot)
-    (result : Result (Option Cause) E) → last_step log ≡ Some step → parent_log ≡ parent_of log → actions ≡ setting.design.actions →
-    are_seen setting log step run → are_seen setting parent_log step parent → IfOk result (λ told. IfSome told (is_told actions step run parent)) →
+pub caused : {E : Type 0} (setting : Setting) (log parent_log : List (ℕ × ℕ)) (step : ℕ) (design : Design) (run parent : Slot)
+    (result : Result (Option Cause) E) → last_step log ≡ Some step → parent_log ≡ parent_of log → design ≡ setting.design →
+    are_seen setting log step run → are_seen setting parent_log step parent → IfOk result (λ told. IfSome told (is_told design step run parent)) →
     IfOk result (λ told. IfSome told (IsCause setting log))
-caused setting log parent_log step actions run parent result named_so parent_is actions_are ours theirs told =
-    IfOk-weaker result (λ told. IfSome told (is_told actions step run parent)) (λ told. IfSome told (IsCause setting log))
+caused setting log parent_log step design run parent result named_so parent_is design_is ours theirs told =
+    IfOk-weaker result (λ told. IfSome told (is_told design step run parent)) (λ told. IfSome told (IsCause setting log))
     (λ found some. IfSome_then found some (λ cause is.
-    is_cause setting log parent_log step actions run parent cause named_so parent_is actions_are ours theirs is)) told
+    is_cause setting log parent_log step design run parent cause named_so parent_is design_is ours theirs is)) told

@@ -10,11 +10,10 @@ use Rattle.sched_core.proofs.RunLemmas.{IsLeft, left_next, run_more}
 use Rattle.vmodel.specs.declared.choice.Choice.{Choice}
 use Rattle.vmodel.specs.State.{State}
 use Rattle.vmodel.specs.Choices.{choices}
-use Rattle.vmodel.specs.Step.{next}
+use Rattle.vmodel.specs.Step.{Transition, next}
 use Rattle.vmodel.specs.Run.{Setting, rules_of, state_after}
 use Rattle.vmodel.specs.RunProgress.{width_is, after_is}
 use Rattle.vmachine.specs.Inner.{IsAt}
-use Rattle.vmodel.specs.Effects.{Effect}
 use Rattle.cause.specs.Checkpoints.{IsCheckpointOf}
 use Rattle.footprints.specs.Keeping.{Keeps}
 use Rattle.cause.proofs.CheckpointLemmas.{keeps_none, keeps_on, keeps_then, rises, seen_early}
@@ -139,25 +138,25 @@ module _ (setting : Setting) (log : List (ℕ × ℕ)) (steps from : ℕ) where
             ∙ sym (after_is setting (state_after setting log n) (choice_at log n))
             ∙ ap (stands (rules_of setting) log) (sym (add-one n))
 
-        sees_on : seen_by setting.design from n state choice (next setting.design state index).effect (seen_after setting log from n) ≡ seen_after setting log from (n + 1)
+        sees_on : seen_by setting.design from n state choice (next setting.design state index) (seen_after setting log from n) ≡ seen_after setting log from (n + 1)
         sees_on =
-            ap (λ (s : State). seen_by setting.design from n s choice (next setting.design s index).effect (seen_after setting log from n)) so.here.at
-            ∙ ap (λ (i : ℕ). seen_by setting.design from n (state_after setting log n) choice (next setting.design (state_after setting log n) i).effect
+            ap (λ (s : State). seen_by setting.design from n s choice (next setting.design s index) (seen_after setting log from n)) so.here.at
+            ∙ ap (λ (i : ℕ). seen_by setting.design from n (state_after setting log n) choice (next setting.design (state_after setting log n) i)
             (seen_after setting log from n)) index_is
             ∙ ap (λ (c : Option Choice). seen_next setting.design from n (state_after setting log n) c
-            (next setting.design (state_after setting log n) (choice_at log n)).effect (seen_after setting log from n)) (found ∙ choice_is)
+            (next setting.design (state_after setting log n) (choice_at log n)) (seen_after setting log from n)) (found ∙ choice_is)
             ∙ ap (seen_after setting log from) (sym (add-one n))
 
         pub keeps_there : after ≡ (next setting.design state index).state →
-            Keeps after.queue.time new (seen_by setting.design from n state choice (next setting.design state index).effect seen) →
+            Keeps after.queue.time new (seen_by setting.design from n state choice (next setting.design state index) seen) →
             Keeps after.queue.time new (seen_after setting log from (n + 1))
         keeps_there is sees =
-            let effect : Effect = (next setting.design state index).effect in
+            let step : Transition = next setting.design state index in
             let later_on : state.queue.time ≤ after.queue.time = rises setting log n state after run_on so.here.at (at_on is) in
             subst (Keeps after.queue.time new) sees_on
-            (keeps_then after.queue.time new (seen_by setting.design from n state choice effect seen)
-            (seen_by setting.design from n state choice effect (seen_after setting log from n)) sees
-            (keeps_on setting.design from n state choice effect seen (seen_after setting log from n) after.queue.time so.is later_on))
+            (keeps_then after.queue.time new (seen_by setting.design from n state choice step seen)
+            (seen_by setting.design from n state choice step (seen_after setting log from n)) sees
+            (keeps_on setting.design from n state choice step seen (seen_after setting log from n) after.queue.time so.is later_on))
 
         pub is_at_on : n < steps → IsLogFrom (n + 1) later → after ≡ (next setting.design state index).state → IsAt setting log later steps (n + 1) after
         is_at_on lt lawful is = record {
@@ -168,7 +167,7 @@ module _ (setting : Setting) (log : List (ℕ × ℕ)) (steps from : ℕ) where
         }
 
         pub seen_on : n < steps → IsLogFrom (n + 1) later → (from ≤ n → is_in_slot (Some choice) ≡ true) → after ≡ (next setting.design state index).state →
-            Keeps after.queue.time new (seen_by setting.design from n state choice (next setting.design state index).effect seen) → new.updates ≤ n + 1 →
+            Keeps after.queue.time new (seen_by setting.design from n state choice (next setting.design state index) seen) → new.updates ≤ n + 1 →
             IsSeenSo setting log steps from later (n + 1) after new
         seen_on lt lawful goes is sees few =
             record { here = is_at_on lt lawful is; is = keeps_there is sees; few = few; within = slot_on choice found goes }
@@ -228,7 +227,7 @@ module _ (setting : Setting) (log rest later : List (ℕ × ℕ)) (from begin n 
 
   -- a step more
   module _ (before : n < from) (lawful : IsLogFrom (n + 1) later) (is : after ≡ (next setting.design state index).state)
-      (sees : Keeps after.queue.time new (seen_by setting.design begin n state choice (next setting.design state index).effect seen))
+      (sees : Keeps after.queue.time new (seen_by setting.design begin n state choice (next setting.design state index) seen))
       (few : new.updates ≤ n + 1) where
     goes_so : is_in_slot (Some choice) ≡ true → IsSeenSo setting log from begin later (n + 1) after new
     goes_so goes = record {
@@ -238,7 +237,7 @@ module _ (setting : Setting) (log rest later : List (ℕ × ℕ)) (from begin n 
       within = (same_begin goes).within;
     }
 
-    ends_so : IsSeenSo setting log from (n + 1) later (n + 1) after (record new { visits = [] })
+    ends_so : IsSeenSo setting log from (n + 1) later (n + 1) after (record new { visits = []; waits = [] })
     ends_so = record {
       here = is_at_on setting log from begin rest n state seen so index later taken choice after new found before lawful is;
       is = keeps_none setting log begin (n + 1) (n + 1) after.queue.time new
@@ -248,7 +247,7 @@ module _ (setting : Setting) (log rest later : List (ℕ × ℕ)) (from begin n 
     }
 
     pub begin_on : (b : ℕ) (kept : Seen) → (is_in_slot (Some choice) ≡ true → (b ≡ begin) × (kept ≡ new)) →
-        (is_in_slot (Some choice) ≡ false → (b ≡ n + 1) × (kept ≡ record new { visits = [] })) → IsBegin setting log (n + 1) b
+        (is_in_slot (Some choice) ≡ false → (b ≡ n + 1) × (kept ≡ record new { visits = []; waits = [] })) → IsBegin setting log (n + 1) b
     begin_on b kept on off = by_case (is_in_slot (Some choice)) refl
       where
         by_case : (test : Bool) → is_in_slot (Some choice) ≡ test → IsBegin setting log (n + 1) b
@@ -256,7 +255,7 @@ module _ (setting : Setting) (log rest later : List (ℕ × ℕ)) (from begin n 
         by_case false e = subst (IsBegin setting log (n + 1)) (sym (off e).0) (new_begin e)
 
     pub so_on : (b : ℕ) (kept : Seen) → (is_in_slot (Some choice) ≡ true → (b ≡ begin) × (kept ≡ new)) →
-        (is_in_slot (Some choice) ≡ false → (b ≡ n + 1) × (kept ≡ record new { visits = [] })) → IsSeenSo setting log from b later (n + 1) after kept
+        (is_in_slot (Some choice) ≡ false → (b ≡ n + 1) × (kept ≡ record new { visits = []; waits = [] })) → IsSeenSo setting log from b later (n + 1) after kept
     so_on b kept on off = by_case (is_in_slot (Some choice)) refl
       where
         P : ℕ → Seen → Type 0
@@ -278,9 +277,9 @@ stands_there setting log rest from n begin state seen begun_so so le =
 
 -- from the step on
 pub stands_so : (setting : Setting) (log rest : List (ℕ × ℕ)) (steps from : ℕ) (state : State) (seen kept : Seen) → StandsBefore setting log from rest state seen →
-    kept ≡ record seen { visits = [] } → from ≤ steps → IsSeenSo setting log steps from rest from state kept
+    kept ≡ record seen { visits = []; waits = [] } → from ≤ steps → IsSeenSo setting log steps from rest from state kept
 stands_so setting log rest steps from state seen kept before is le =
-    let none : IsSeenSo setting log steps from rest from state (record seen { visits = [] }) = record {
+    let none : IsSeenSo setting log steps from rest from state (record seen { visits = []; waits = [] }) = record {
       here = record { within = le; left = before.so.here.left; run = before.so.here.run; at = before.so.here.at };
       is = keeps_none setting log before.b from from state.queue.time seen before.so.is (le_refl from);
       few = before.so.few;
@@ -307,7 +306,7 @@ checkpoint_there setting log rest steps from n state seen so le begin = record {
 module _ (setting : Setting) (log rest later : List (ℕ × ℕ)) (to n index : ℕ) (state after : State) (seen new : Seen) (choice : Choice)
     (so : IsSeenSo setting log to to rest n state seen) (taken : IsNextChoice rest n index later) (lawful : IsLogFrom (n + 1) later)
     (found : Some choice ≡ slice_get (choices state) index) (lt : n < to) (is : after ≡ (next setting.design state index).state)
-    (sees : Keeps after.queue.time new (seen_by setting.design to n state choice (next setting.design state index).effect seen)) (few : new.updates ≤ n + 1) where
+    (sees : Keeps after.queue.time new (seen_by setting.design to n state choice (next setting.design state index) seen)) (few : new.updates ≤ n + 1) where
   -- the run goes on by a step
   pub goes_on : IsSeenSo setting log to to later (n + 1) after new
   goes_on =

@@ -1,13 +1,12 @@
 -- *product rule*: Which two statements race (crates/cause/README.md): the first swap of a run and its parent, in the slot of the last step that
 -- the log names. Both stand in the same state before that step.
 use Rattle.std.specs.Prelude.{◌≡◌, ℕ, suc, ◌+◌, ◌-◌, ◌<◌, if◌then◌else◌, List, [], ◌∷◌, ◌++◌, length, take, Option, Some, None, slice_get}
-use Rattle.vdesign.specs.declared.action.Action.{Action}
+use Rattle.vdesign.specs.Design.{Design}
 use Rattle.sched_core.specs.Rules.{IsRun, NamesBelow}
 use Rattle.vmodel.specs.Run.{Setting, rules_of, state_after}
-use Rattle.footprints.specs.Footprints.{shared_things}
 use Rattle.footprints.specs.Visits.{same_visit, visits_to, IsBegin, IsSlot}
 use Rattle.cause.specs.Behind.{statement_behind}
-use Rattle.footprints.specs.Swaps.{IsFirstSwap, HasNoSwap}
+use Rattle.footprints.specs.Swaps.{things_in_both, IsFirstSwap, HasNoSwap}
 use Rattle.footprints.specs.declared.visit.Visit.{Visit}
 use Rattle.cause.specs.declared.cause.Blamed.{Blamed}
 use Rattle.cause.specs.declared.cause.Cause.{Cause}
@@ -39,26 +38,26 @@ step_in v (w ∷ visits) = if same_visit v w then Some w.step else step_in v vis
 
 -- what is told of visit i of one of both runs, its own, which is v; the statement behind it by the visits of the whole slot, those before
 -- the step and its own
-abbrev pub told_of : List Action → List Visit → List Visit → List Visit → List Visit → ℕ → Visit → Blamed
-told_of actions run parent earlier own i v = record {
+abbrev pub told_of : Design → List Visit → List Visit → List Visit → List Visit → ℕ → Visit → Blamed
+told_of design run parent earlier own i v = record {
   actor = v.actor;
   place = v.place;
-  statement = statement_behind actions (earlier ++ own) (length earlier + i) v;
+  statement = statement_behind design (earlier ++ own) (length earlier + i) v;
   in_run = step_in v run;
   in_parent = step_in v parent;
 }
 
 -- what is told of visit i of the run, which is v, and of visit j of the parent, which is w
-abbrev pub cause_by : List Action → ℕ → List Visit → List Visit → List Visit → List Visit → ℕ → ℕ → Visit → Visit → Cause
-cause_by actions step run_earlier run parent_earlier parent i j v w = record {
+abbrev pub cause_by : Design → ℕ → List Visit → List Visit → List Visit → List Visit → ℕ → ℕ → Visit → Visit → Cause
+cause_by design step run_earlier run parent_earlier parent i j v w = record {
   step = step;
-  first = told_of actions run parent run_earlier run i v;
-  second = told_of actions run parent parent_earlier parent j w;
-  things = shared_things v.footprint w.footprint;
+  first = told_of design run parent run_earlier run i v;
+  second = told_of design run parent parent_earlier parent j w;
+  things = things_in_both run parent v w;
 }
 
 -- it tells the first swap of the visits of both runs from the step on, before which these come
-pub record IsCauseIn (actions : List Action) (step : ℕ) (run_earlier run parent_earlier parent : List Visit) (cause : Cause) : Type 0 where
+pub record IsCauseIn (design : Design) (step : ℕ) (run_earlier run parent_earlier parent : List Visit) (cause : Cause) : Type 0 where
   pub i : ℕ
   pub j : ℕ
   pub is : IsFirstSwap run parent i j
@@ -66,7 +65,7 @@ pub record IsCauseIn (actions : List Action) (step : ℕ) (run_earlier run paren
   pub at_i : slice_get run i ≡ Some v
   pub w : Visit
   pub at_j : slice_get parent j ≡ Some w
-  pub told : cause ≡ cause_by actions step run_earlier run parent_earlier parent i j v w
+  pub told : cause ≡ cause_by design step run_earlier run parent_earlier parent i j v w
 
 -- the cause of what the run under the log has, and its parent hasn't
 pub record IsCause (setting : Setting) (log : List (ℕ × ℕ)) (cause : Cause) : Type 0 where
@@ -80,7 +79,7 @@ pub record IsCause (setting : Setting) (log : List (ℕ × ℕ)) (cause : Cause)
   pub before_parent : AreEarlier setting (parent_of log) cause.step parent_earlier
   pub parent : List Visit
   pub of_parent : AreVisits setting (parent_of log) cause.step parent
-  pub is : IsCauseIn setting.design.actions cause.step run_earlier run parent_earlier parent cause
+  pub is : IsCauseIn setting.design cause.step run_earlier run parent_earlier parent cause
 
 -- the slot doesn't end before so many steps
 abbrev pub HasNoSlot : Setting → List (ℕ × ℕ) → ℕ → ℕ → Type 0

@@ -11,16 +11,17 @@ use crate::checkpoint::Checkpoint;
 use crate::checkpoints::Checkpoints;
 use crate::slot::{Slot, first_step, visits_of_slot};
 use basis::NoMemory;
-use footprints::swap::first_swap;
-use footprints::thing::{Things, shared_things};
+use footprints::index::Index;
+use footprints::swap::{first_swap, things_in_both};
+use footprints::thing::Things;
 use footprints::visit::{Actor, Visit, is_same_visit};
 use sched_core::{Log, Member};
 use std::alloc::Global;
-use vdesign::action::Action;
+use vdesign::design::Design;
 use vmachine::Machine;
 
 /// One of the two visits: who makes it, the place of its action in the design's table, that of the statement behind it where its action is a
-/// port connection or an `assign`, else the same place, and which step it is in both runs, none where it doesn't come.
+/// port connection, an `assign` or of a block that waits for what it reads, else the same place, and which step it is in both runs, none where it doesn't come.
 #[derive(Clone, Copy)]
 pub struct Blamed {
     pub actor: Actor,
@@ -83,49 +84,53 @@ fn step_in(visit: &Visit, visits: &[Visit]) -> Option<u32>
 
 // What is told of visit i of one of both runs' slots, which is this one.
 fn told_of(
-    actions: &[Action],
+    alloc: Global,
+    design: &Design,
     run: &[Visit],
     parent: &[Visit],
     own: &Slot,
     i: usize,
     visit: &Visit,
-) -> Blamed
+) -> Result<Blamed, NoMemory>
     requires { i < length own.now.visits.items }
-    ensures { result ≡ spec.told_of actions.now run.now parent.now own.now.earlier.items own.now.visits.items i visit.now }
+    ensures { IfOk result (λ told.
+        told ≡ spec.told_of design.now run.now parent.now own.now.earlier.items own.now.visits.items i visit.now) }
 {
-    Blamed {
+    Ok(Blamed {
         actor: visit.actor,
         place: visit.place,
-        statement: statement_behind(actions, own, i, visit),
+        statement: statement_behind(alloc, design, own, i, visit)?,
         in_run: step_in(visit, run),
         in_parent: step_in(visit, parent),
-    }
+    })
 }
 
 // What is told of the first swap of both slots' visits.
 fn cause_in(
     alloc: Global,
-    actions: &[Action],
+    design: &Design,
     step: u32,
     run: &Slot,
     parent: &Slot,
 ) -> Result<Option<Cause>, NoMemory>
     ensures some { IfOk result (λ told. IfSome told
-        (spec.IsCauseIn actions.now step run.now.earlier.items run.now.visits.items parent.now.earlier.items parent.now.visits.items)) }
+        (spec.IsCauseIn design.now step run.now.earlier.items run.now.visits.items parent.now.earlier.items parent.now.visits.items)) }
     ensures none { IfOk result (λ told. IfNone told (HasNoSwap run.now.visits.items parent.now.visits.items)) }
 {
     let ours: &[Visit] = &run.visits;
     let theirs: &[Visit] = &parent.visits;
-    match first_swap(alloc, ours, theirs)? {
+    let run_index = Index::of(alloc, ours)?;
+    let parent_index = Index::of(alloc, theirs)?;
+    match first_swap(alloc, &run_index, &parent_index)? {
         None => Ok(None),
         Some(swap) => {
             let one = &ours[swap.in_run];
             let other = &theirs[swap.in_parent];
             Ok(Some(Cause {
                 step,
-                first: told_of(actions, ours, theirs, run, swap.in_run, one),
-                second: told_of(actions, ours, theirs, parent, swap.in_parent, other),
-                things: shared_things(alloc, &one.footprint, &other.footprint)?,
+                first: told_of(alloc, design, ours, theirs, run, swap.in_run, one)?,
+                second: told_of(alloc, design, ours, theirs, parent, swap.in_parent, other)?,
+                things: things_in_both(alloc, &run_index, &parent_index, one, other)?,
             }))
         }
     }
@@ -156,7 +161,7 @@ pub(crate) fn cause_from(
     let Some(parent) = visits_of_slot(alloc, machine, parent_start, parent_log, step, steps)? else {
         return Ok(None);
     };
-    cause_in(alloc, &machine.design().actions, step, &run, &parent)
+    cause_in(alloc, machine.design(), step, &run, &parent)
 }
 
 /// The cause of what the run under the log has, and the run under the log without its last member hasn't. None where no member is named,

@@ -5,6 +5,7 @@
 
 mod along;
 mod behind;
+mod block;
 mod cause;
 mod checkpoint;
 mod checkpoints;

@@ -53,7 +53,8 @@ pub(crate) struct Slot {
 // The first step of the slot of the next step, behind a step of a choice; where another slot begins the visits are forgotten.
 fn begin_after(alloc: Global, choice: Choice, begin: u32, next: u32, seen: &mut Seen) -> u32
     ensures goes { spec.is_in_slot (Some choice) ≡ true → (result ≡ begin) × (seen.new ≡ seen.old) }
-    ensures ends { spec.is_in_slot (Some choice) ≡ false → (result ≡ next) × (seen.new ≡ record seen.old { visits = [] }) }
+    ensures ends { spec.is_in_slot (Some choice) ≡ false →
+        (result ≡ next) × (seen.new ≡ record seen.old { visits = []; waits = [] }) }
 {
     match choice {
         Choice::Run(_) => begin,

@@ -41,6 +41,8 @@ enum Takes {
     Words(&'static str),
     /// A word that has to be given.
     Needed(&'static str),
+    /// The same; it may be given more than once.
+    NeededWords(&'static str),
     /// One of these words.
     One(&'static str, &'static [&'static str]),
     Number,
@@ -258,7 +260,7 @@ static RACES: [Row; 20] = [
     },
     Row {
         name: "format",
-        takes: Takes::One("F", &["text", "json", "sarif"]),
+        takes: Takes::One("F", &["text", "json", "jsonl", "sarif"]),
         default: Some("text"),
         help: "How what was found is written",
     },
@@ -305,15 +307,15 @@ static RACES: [Row; 20] = [
 static MATCH: [Row; 12] = [
     Row {
         name: "vcd",
-        takes: Takes::Needed("DUMP"),
+        takes: Takes::NeededWords("DUMP"),
         default: None,
-        help: "The value change dump that another simulator wrote of these files",
+        help: "The value change dump that another simulator wrote of these files; of two dumps it says whether one order has both",
     },
     Row {
         name: "scope",
-        takes: Takes::Word("PATH=PATH"),
+        takes: Takes::Words("PATH=PATH"),
         default: None,
-        help: "A scope of the dump, and the one of the files that it is compared with, as tb.dut=fifo_driven.dut",
+        help: "A scope of the dump, and the one of the files that it is compared with, as tb.dut=fifo_driven.dut; given twice, of each dump",
     },
     Row {
         name: "slot-depart",
@@ -448,7 +450,7 @@ impl Takes {
     fn action(&self) -> ArgAction {
         match self {
             Takes::Nothing => ArgAction::SetTrue,
-            Takes::Words(_) => ArgAction::Append,
+            Takes::Words(_) | Takes::NeededWords(_) => ArgAction::Append,
             Takes::Word(_) | Takes::Needed(_) | Takes::One(_, _) | Takes::Number => ArgAction::Set,
         }
     }
@@ -457,9 +459,11 @@ impl Takes {
     fn value_names(&'static self) -> &'static [&'static str] {
         match self {
             Takes::Nothing => &[],
-            Takes::Word(name) | Takes::Words(name) | Takes::Needed(name) | Takes::One(name, _) => {
-                slice::from_ref(name)
-            }
+            Takes::Word(name)
+            | Takes::Words(name)
+            | Takes::Needed(name)
+            | Takes::NeededWords(name)
+            | Takes::One(name, _) => slice::from_ref(name),
             Takes::Number => &["N"],
         }
     }
@@ -468,7 +472,9 @@ impl Takes {
     fn parser(&self) -> ValueParser<'static> {
         match self {
             Takes::Nothing => ValueParser::Bool,
-            Takes::Word(_) | Takes::Words(_) | Takes::Needed(_) => ValueParser::String,
+            Takes::Word(_) | Takes::Words(_) | Takes::Needed(_) | Takes::NeededWords(_) => {
+                ValueParser::String
+            }
             Takes::One(_, words) => ValueParser::Names(*words),
             Takes::Number => ValueParser::Unsigned(0, u64::MAX),
         }
@@ -476,7 +482,7 @@ impl Takes {
 
     // Whether it has to be given.
     fn is_needed(&self) -> bool {
-        matches!(self, Takes::Needed(_))
+        matches!(self, Takes::Needed(_) | Takes::NeededWords(_))
     }
 }
 
@@ -911,34 +917,72 @@ fn race_departures_of(matches: &ArgMatches<'_>) -> Departures {
     }
 }
 
-/// What the words after `match` ask for beside its machine: the dump, how many departures a slot may have, how many states, what the search
-/// may take, and how what was found is written.
+/// A dump that `match` reads, and a scope of it with the one of the files that it is compared with.
+#[derive(Clone, Copy)]
+pub struct DumpWords<'a> {
+    pub dump: &'a str,
+    pub scope: Option<&'a str>,
+}
+
+/// What the words after `match` ask for beside its machine: the dump, and the one that it is compared with; how many departures a slot may
+/// have, how many states, what the search may take, and how what was found is written.
 #[derive(Clone, Copy)]
 pub struct MatchWords<'a> {
-    pub dump: &'a str,
-    /// A scope of the dump, and the one of the files that it is compared with.
-    pub scope: Option<&'a str>,
+    pub first: DumpWords<'a>,
+    pub second: Option<DumpWords<'a>>,
     pub slot_depart: u64,
     pub entries: u64,
     pub allowance: Allowance,
     pub format: Option<&'a str>,
 }
 
-/// Whether the name of the dump reads as an option.
-pub fn has_dashed_dump(matches: &ArgMatches<'_>) -> bool {
-    is_dashed(matches, "vcd")
+/// Whether a value of `--vcd` or of `--scope` of `match` reads as an option.
+pub fn has_dashed_match(matches: &ArgMatches<'_>) -> bool {
+    has_dashed(matches, "vcd") || has_dashed(matches, "scope")
 }
 
-/// Whether the value of `--scope` reads as an option.
-pub fn has_dashed_scope(matches: &ArgMatches<'_>) -> bool {
-    is_dashed(matches, "scope")
+// How often an option was given.
+fn count_of(matches: &ArgMatches<'_>, name: &str) -> usize {
+    match matches.get_strs(name) {
+        None => 0,
+        Some(values) => values.len(),
+    }
+}
+
+/// Whether `match` is given more than two dumps.
+pub fn has_many_dumps(matches: &ArgMatches<'_>) -> bool {
+    count_of(matches, "vcd") > 2
+}
+
+/// Whether it is given more scopes than dumps.
+pub fn has_many_scopes(matches: &ArgMatches<'_>) -> bool {
+    count_of(matches, "scope") > count_of(matches, "vcd")
+}
+
+// The value of this place of an option; where fewer are given, the last.
+fn value_at<'a>(matches: &ArgMatches<'a>, name: &str, place: usize) -> Option<&'a str> {
+    let values = matches.get_strs(name)?;
+    let last = values.len().saturating_sub(1);
+    values.get(place.min(last)).copied()
+}
+
+// The dump of this place. One scope is of all dumps.
+fn dump_at<'a>(matches: &ArgMatches<'a>, place: usize) -> DumpWords<'a> {
+    DumpWords {
+        dump: value_at(matches, "vcd", place).unwrap_or(""),
+        scope: value_at(matches, "scope", place),
+    }
 }
 
 /// What the words after `match` ask for alone.
 pub fn match_words_of<'a>(matches: &ArgMatches<'a>) -> MatchWords<'a> {
     MatchWords {
-        dump: matches.get_str("vcd").unwrap_or(""),
-        scope: matches.get_str("scope"),
+        first: dump_at(matches, 0),
+        second: if count_of(matches, "vcd") > 1 {
+            Some(dump_at(matches, 1))
+        } else {
+            None
+        },
         slot_depart: matches.get_one::<u64>("slot-depart").unwrap_or(0),
         entries: matches.get_one::<u64>("entries").unwrap_or(0),
         allowance: Allowance {

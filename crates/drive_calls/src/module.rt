@@ -103,6 +103,7 @@ fn named_module(
         edges: Vec::new(alloc),
         ascends: Vec::new(alloc),
         scale: Timescale::usual(),
+        inner: Vec::new(alloc),
     })
 }
 
@@ -188,6 +189,17 @@ fn put_ports(
     Ok(())
 }
 
+// Puts the paths of the variables in the instance, as the design has them.
+fn put_inner(alloc: Global, module: &mut DrivenModule, design: &Design) -> Result<(), NoMemory> {
+    let prefix = prefix_of(alloc, module)?;
+    for variable in &design.variables {
+        if let Some(path) = variable.name.as_slice().strip_prefix(prefix.as_slice()) {
+            module.inner.push(copied(alloc, path)?)?;
+        }
+    }
+    Ok(())
+}
+
 // The files, and behind them a module with an instance of the one that is driven.
 fn with_skeleton(
     alloc: Global,
@@ -225,6 +237,7 @@ fn read_module(
             let design = placed.machine.design();
             module.scale = design.scale;
             put_ports(alloc, module, design, &modules.ports, words)?;
+            put_inner(alloc, module, design)?;
             Ok(())
         }
     }

@@ -17,11 +17,12 @@ use std::alloc::Global;
 use vcd_read::{VcdReader, VcdVariable};
 use written_times::Bounds;
 
-// The place of the scope that has the module's inputs.
+// The place of the scope that has the module's inputs; where none has, of one that has each with some width, which is refused by it.
 fn chosen_scope(
     alloc: Global,
     scopes: &PortScopes,
     module: &DrivenModule,
+    variables: &[VcdVariable],
     path: Option<&str>,
 ) -> Result<usize, Stop> {
     if let Some(path) = path {
@@ -30,9 +31,12 @@ fn chosen_scope(
             None => Err(no_scope(alloc, module, path, scopes)),
         };
     }
-    let candidates = scopes.candidates(alloc, module)?;
+    let candidates = scopes.candidates(alloc, module, variables)?;
     match candidates.split_first() {
-        None => Err(no_candidate(alloc, module, scopes)),
+        None => match scopes.of_other_width(alloc, module)? {
+            Some(place) => Ok(place),
+            None => Err(no_candidate(alloc, module, scopes)),
+        },
         Some((place, rest)) if rest.is_empty() => Ok(*place),
         Some(_) => Err(several_scopes(alloc, module, scopes, &candidates)),
     }
@@ -185,7 +189,7 @@ pub(crate) fn read_dump(
     };
     let units = DumpUnits::of(dump.unit(), module.scale, free);
     let scopes = PortScopes::of(alloc, dump.variables(), module)?;
-    let place = chosen_scope(alloc, &scopes, module, words.scope)?;
+    let place = chosen_scope(alloc, &scopes, module, dump.variables(), words.scope)?;
     let chosen = Chosen {
         dump: words.dump,
         variables: dump.variables(),

@@ -18,6 +18,8 @@ pub struct DrivenModule {
     /// Of each port, whether its leftmost bit has the lowest number.
     pub ascends: Vec<bool>,
     pub scale: Timescale,
+    /// The paths of the variables in the instance, from it on.
+    pub inner: Vec<Vec<u8>>,
 }
 
 impl DrivenModule {

@@ -84,6 +84,87 @@ impl PortScope {
         }
         count
     }
+
+    // How many inputs it has, with any width.
+    fn count_named(&self, module: &DrivenModule) -> usize {
+        let mut count = 0usize;
+        for (place, port) in module.ports.iter().enumerate() {
+            if port.role != Role::Output && self.tally(place).is_some() {
+                count = count.saturating_add(1);
+            }
+        }
+        count
+    }
+}
+
+// The paths of the variables of a module, from it on, those of its ports with false; and how many scopes the longest goes through.
+#[derive(Drop)]
+struct Inner {
+    names: BTreeMap<Vec<u8>, bool>,
+    depth: usize,
+}
+
+// How many names a path has.
+fn names_in(path: &[u8]) -> usize {
+    let mut count = 1usize;
+    for byte in path {
+        if *byte == b'.' {
+            count = count.saturating_add(1);
+        }
+    }
+    count
+}
+
+impl Inner {
+    // Those of a module, its ports among them.
+    fn all(alloc: Global, module: &DrivenModule) -> Result<Inner, NoMemory> {
+        let mut inner = Inner {
+            names: BTreeMap::new(alloc),
+            depth: 0,
+        };
+        for path in &module.inner {
+            inner.names.insert(Vec::from_slice(alloc, path)?, true)?;
+            inner.depth = inner.depth.max(names_in(path));
+        }
+        Ok(inner)
+    }
+
+    // Those of a module.
+    fn of(alloc: Global, module: &DrivenModule) -> Result<Inner, NoMemory> {
+        let mut inner = Inner::all(alloc, module)?;
+        for port in &module.ports {
+            inner
+                .names
+                .insert(Vec::from_slice(alloc, &port.name)?, false)?;
+        }
+        Ok(inner)
+    }
+}
+
+// What is counted at a place.
+fn count_at(counts: &[usize], place: usize) -> usize {
+    counts.get(place).copied().unwrap_or(0)
+}
+
+// The most that is counted at one of these places.
+fn most_of(places: &[usize], counts: &[usize]) -> usize {
+    let mut most = 0;
+    for place in places {
+        most = most.max(count_at(counts, *place));
+    }
+    most
+}
+
+// Those of these places that have the most.
+fn fullest_of(alloc: Global, places: &[usize], counts: &[usize]) -> Result<Vec<usize>, NoMemory> {
+    let most = most_of(places, counts);
+    let mut fullest = Vec::new(alloc);
+    for place in places {
+        if count_at(counts, *place) == most {
+            fullest.push(*place)?;
+        }
+    }
+    Ok(fullest)
 }
 
 /// The scopes of a dump that have a variable with the name of a port.
@@ -232,14 +313,68 @@ impl PortScopes {
         Ok(inner)
     }
 
-    /// The places of those that the module may be: they have each input; where several do, those with each port; and of those, those that have
-    /// none of them in them.
-    pub fn candidates(&self, alloc: Global, module: &DrivenModule) -> Result<Vec<usize>, NoMemory> {
+    // Counts a variable of a dump for each scope round it from which on its path is one of the module's, at most so many scopes up.
+    fn count_inner(&self, counts: &mut [usize], inner: &Inner, name: &[u8]) {
+        let mut path = parts_of(name).0;
+        for _ in 0..inner.depth {
+            let rest = name
+                .split_at(path.len().saturating_add(1).min(name.len()))
+                .1;
+            if let (Some(place), Some(&true)) = (self.places.get(path), inner.names.get(rest)) {
+                if let Some(count) = counts.get_mut(*place) {
+                    *count = count.saturating_add(1);
+                }
+            }
+            path = parts_of(path).0;
+        }
+    }
+
+    // Of each scope, how many variables of the dump have the path of one in the module, which is none of its ports.
+    fn inner_counts(
+        &self,
+        alloc: Global,
+        module: &DrivenModule,
+        variables: &[VcdVariable],
+    ) -> Result<Vec<usize>, NoMemory> {
+        let inner = Inner::of(alloc, module)?;
+        let mut counts = Vec::new(alloc);
+        counts.resize(self.list.len(), 0usize)?;
+        for variable in variables {
+            self.count_inner(&mut counts, &inner, &variable.name);
+        }
+        Ok(counts)
+    }
+
+    /// The places of those that the module may be: they have each input; where several do, those with each port; of those, those that have the
+    /// most variables of the module; and of those, those that have none of them in them.
+    pub fn candidates(
+        &self,
+        alloc: Global,
+        module: &DrivenModule,
+        variables: &[VcdVariable],
+    ) -> Result<Vec<usize>, NoMemory> {
         let all = self.having(alloc, module, false, module.inputs())?;
         if all.len() < 2 {
             return Ok(all);
         }
         let whole = self.having(alloc, module, true, module.ports.len())?;
-        self.innermost(alloc, if whole.is_empty() { &all } else { &whole })
+        let counts = self.inner_counts(alloc, module, variables)?;
+        let fullest = fullest_of(alloc, if whole.is_empty() { &all } else { &whole }, &counts)?;
+        self.innermost(alloc, &fullest)
+    }
+
+    /// The place of the first that has each input by its name, and none of those in it.
+    pub fn of_other_width(
+        &self,
+        alloc: Global,
+        module: &DrivenModule,
+    ) -> Result<Option<usize>, NoMemory> {
+        let mut places = Vec::new(alloc);
+        for (place, scope) in self.list.iter().enumerate() {
+            if scope.count_named(module) == module.inputs() {
+                places.push(place)?;
+            }
+        }
+        Ok(self.innermost(alloc, &places)?.first().copied())
     }
 }

@@ -3,7 +3,7 @@
 use crate::copies::{Handed, handed_by};
 use crate::inner::actions_of;
 use basis::NoMemory;
-use footprints::footprint::footprint_of;
+use footprints::footprint::reads_of;
 use footprints::thing::Thing;
 use std::alloc::Global;
 use vdesign::action::{Action, Edge, Term, Terms};
@@ -158,13 +158,10 @@ impl Heard {
     }
 }
 
-// Marks what a step reads, but what an event control waits for.
+// Marks what a step reads, which isn't what an event control waits for.
 fn mark_read(alloc: Global, read: &mut [bool], action: &Action) -> Result<(), NoMemory> {
-    if let Action::EventControl { .. } = action {
-        return Ok(());
-    }
-    let footprint = footprint_of(alloc, action, true)?;
-    for thing in footprint.reads.as_slice() {
+    let reads = reads_of(alloc, action, true)?;
+    for thing in reads.as_slice() {
         if let Thing::Variable(number) = thing {
             if let Some(mark) = read.get_mut(*number as usize) {
                 *mark = true;

@@ -1,6 +1,6 @@
 // A dump as what runs are compared with.
 
-ghost use Rattle.std.specs.Prelude.{◌≡◌, ◌++◌, count_by, option_to_list, None, IfOk};
+ghost use Rattle.std.specs.Prelude.{◌≡◌, ◌++◌, count_by, get_or, option_to_list, None, IfOk};
 ghost use Rattle.std.specs.Option.{unwrap_or};
 ghost use Rattle.vcd_slots.specs.Standing.{IsReady};
 ghost use Rattle.vmachine.specs.Machines.{state_in};
@@ -165,6 +165,13 @@ impl<'m, R: Read + Drop> DumpReference<'m, R> {
     {
         let values = self.machine.values(s);
         all_differing(self.alloc, &self.slots, values, &self.comparison.pairs)
+    }
+
+    /// What is shown of a pair; None where nothing is known of it.
+    pub fn told(&self, pair: &Pair) -> Option<Vec4>
+        ensures { result ≡ get_or self.now.slots.columns.told.items pair.now.column None }
+    {
+        self.slots.value(pair.column)
     }
 
     // How many differ in a state in which a slot ends, or in which the run was finished.

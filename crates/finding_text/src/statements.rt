@@ -34,22 +34,20 @@ fn is_target(targets: &Targets, thing: Touched) -> bool {
 }
 
 // What a statement that assigns does to it.
-fn verb_of_targets(targets: &Targets, thing: Touched, verb: &'static [u8]) -> &'static [u8] {
+fn verb_of_targets(targets: &Targets, thing: Touched) -> &'static [u8] {
     if is_target(targets, thing) {
-        verb
+        b"writes"
     } else {
         b"reads"
     }
 }
 
-// What a step of the action does to it.
+// What a step of the action does to it. A `<=` only reads in its step; its update writes.
 fn verb_of(action: &Action, thing: Touched) -> &'static [u8] {
     match action {
-        Action::Assign { targets, .. } => verb_of_targets(targets, thing, b"writes"),
-        Action::AssignDelayed { targets, .. } => verb_of_targets(targets, thing, b"writes"),
-        Action::Nonblocking { targets, .. } => verb_of_targets(targets, thing, b"posts to"),
-        Action::NonblockingDelayed { targets, .. } => verb_of_targets(targets, thing, b"posts to"),
-        Action::ContinuousAssign { targets, .. } => verb_of_targets(targets, thing, b"writes"),
+        Action::Assign { targets, .. } => verb_of_targets(targets, thing),
+        Action::AssignDelayed { targets, .. } => verb_of_targets(targets, thing),
+        Action::ContinuousAssign { targets, .. } => verb_of_targets(targets, thing),
         Action::Trigger(_) => b"triggers",
         Action::EventControl { .. } => b"waits for",
         Action::Wait { .. } => b"waits for",
@@ -62,6 +60,39 @@ pub fn verb(design: &Design, racing: &RacingStatement, thing: Touched) -> &'stat
     match design.actions.get(racing.action) {
         Some(action) if !racing.is_update => verb_of(action, thing),
         _ => b"writes",
+    }
+}
+
+// Whether what is done to a thing leaves it as it is.
+fn is_look(verb: &[u8]) -> bool {
+    verb == b"reads".as_slice() || verb == b"waits for".as_slice()
+}
+
+/// Two statements of which one writes what both touch, or triggers it, and the other only looks at it.
+#[derive(Clone, Copy)]
+pub struct Roles<'a> {
+    pub writer: &'a RacingStatement,
+    pub reader: &'a RacingStatement,
+}
+
+/// Which of the two writes what both touch, where the other one only looks at it.
+pub fn roles_of<'a>(design: &Design, statements: &'a Statements) -> Option<Roles<'a>> {
+    let (first, second) = (&statements.first, &statements.second);
+    let thing = *statements.touched.first()?;
+    let looks = (
+        is_look(verb(design, first, thing)),
+        is_look(verb(design, second, thing)),
+    );
+    match looks {
+        (false, true) => Some(Roles {
+            writer: first,
+            reader: second,
+        }),
+        (true, false) => Some(Roles {
+            writer: second,
+            reader: first,
+        }),
+        _ => None,
     }
 }
 
@@ -87,13 +118,26 @@ fn put_verb(
     )
 }
 
-/// `writes tb.a`, of the first two things that both touch.
+// What the statement does where one of the two ends the run before the other prints or writes.
+fn verb_at_end(design: &Design, racing: &RacingStatement) -> &'static [u8] {
+    match design.actions.get(racing.action) {
+        Some(Action::Finish) => b"cuts the slot",
+        Some(Action::Stop) => b"cuts the slot",
+        Some(Action::Print { .. }) => b"prints",
+        _ => b"writes",
+    }
+}
+
+/// `writes tb.a`, of the first two things that both touch; of none, where they touch as one ends the run, `cuts the slot` and `prints`.
 pub fn put_verbs(
     text: &mut Vec<u8>,
     design: &Design,
     racing: &RacingStatement,
     touched: &[Touched],
 ) -> Result<(), NoMemory> {
+    if touched.is_empty() {
+        return put(text, verb_at_end(design, racing));
+    }
     for (place, thing) in touched.iter().take(2).enumerate() {
         if place > 0 {
             put(text, b", ")?;

@@ -1,4 +1,5 @@
 pub mod FootprintLemmas
 pub mod LatestLemmas
+pub mod ChainLemmas
 pub mod NumberLemmas
 pub mod SwapLemmas

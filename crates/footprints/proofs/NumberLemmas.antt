@@ -10,7 +10,7 @@ use Rattle.footprints.specs.declared.visit.Visit.{Visit}
 use Rattle.footprints.specs.Visits.{same_actor, visits_by}
 use Rattle.footprints.specs.Numbered.{AreNumbered}
 
-one_actor : (a b : Actor) → same_actor a b ≡ true → a ≡ b
+pub one_actor : (a b : Actor) → same_actor a b ≡ true → a ≡ b
 one_actor (Process p) (Process q) same = ap Process (eqb-true p q same)
 one_actor (Process p) (UpdateOf q) same = absurd cc
 one_actor (UpdateOf p) (Process q) same = absurd cc

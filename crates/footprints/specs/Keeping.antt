@@ -13,3 +13,4 @@ pub record Keeps (time : ℕ) (kept seen : Seen) : Type 0 where
   pub due : (t : ℕ) → time ≤ t → due_at t kept.posted ≡ due_at t seen.posted
   pub updates : kept.updates ≡ seen.updates
   pub visits : kept.visits ≡ seen.visits
+  pub waits : kept.waits ≡ seen.waits

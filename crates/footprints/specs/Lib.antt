@@ -5,5 +5,6 @@ pub mod Numbered
 pub mod Swaps
 pub mod Latest
 pub mod Known
+pub mod Chains
 pub mod Keeping
 pub mod Inner

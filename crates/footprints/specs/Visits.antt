@@ -2,36 +2,47 @@
 -- updates, each by the `<=` that posted it.
 use Rattle.std.specs.Prelude.{◌≡◌, ℕ, zero, suc, ◌+◌, ◌<◌, ◌≤◌, ◌==◌, ◌&&◌, nat_lt, Bool, true, false, is_some, if◌then◌else◌, List, [], ◌∷◌, ◌++◌, map, Option, Some, None, slice_get}
 use Rattle.sched_core.specs.Rules.{IsRun, choice_at}
+use Rattle.std.specs.Option.{option_to_list}
+use Rattle.vbits.specs.Vectors.{Vector}
 use Rattle.vdesign.specs.Design.{Design}
+use Rattle.vdesign.specs.declared.action.Action.{Action}
+use Rattle.vdesign.specs.declared.action.Action.TheVariants.{EventControl, Wait}
+use Rattle.vdesign.specs.declared.action.Term.{Term}
+use Rattle.vdesign.specs.declared.action.Term.TheVariants as terms
 use Rattle.vmodel.specs.declared.choice.Choice.{Choice}
 use Rattle.vmodel.specs.declared.choice.Choice.TheVariants.{Run, Update, Advance}
 use Rattle.vmodel.specs.Effects.{Effect}
 use Rattle.vmodel.specs.declared.effect.Post.{Post}
 use Rattle.vmodel.specs.State.{State}
 use Rattle.vmodel.specs.Choices.{choices}
-use Rattle.vmodel.specs.declared.part.Part.{Part}
-use Rattle.vmodel.specs.Inner.{first_place, variable_of}
+use Rattle.vmodel.specs.Inner.{first_place}
 use Rattle.vmodel.specs.InnerStep.{continuation_in}
-use Rattle.vmodel.specs.Step.{next}
+use Rattle.vmodel.specs.Step.{Transition, next}
+use Rattle.vmodel.specs.Waking.{hears, any_hears}
+use Rattle.vmodel.specs.declared.effect.Disposition.{Disposition}
+use Rattle.vmodel.specs.declared.effect.Disposition.TheVariants.{Waiting}
 use Rattle.vmodel.specs.Run.{Setting, rules_of, state_after}
-use Rattle.footprints.specs.Footprints.{footprint_at, nothing}
+use Rattle.footprints.specs.Footprints.{reads_at, changed_by, while_it_goes, ended_by}
 use Rattle.footprints.specs.declared.thing.Thing.{Thing}
-use Rattle.footprints.specs.declared.thing.Thing.TheVariants.{Variable}
+use Rattle.footprints.specs.declared.thing.Thing.TheVariants as things
+use Rattle.footprints.specs.declared.thing.Awaited.TheVariants as awaited
 use Rattle.footprints.specs.declared.footprint.Footprint.{Footprint}
 use Rattle.footprints.specs.declared.visit.Actor.{Actor}
 use Rattle.footprints.specs.declared.visit.Actor.TheVariants.{Process, UpdateOf}
 use Rattle.footprints.specs.declared.visit.Visit.{Visit}
 use Rattle.footprints.specs.declared.visit.Posted.{Posted}
+use Rattle.footprints.specs.declared.wait.Standing.{Standing}
 
--- what was seen of a run: the updates that were posted, in that order; how many updates this slot has written; and the visits from
--- some step on
+-- what was seen of a run: the updates that were posted, in that order; how many updates this slot has written; the visits from some step on;
+-- and the waits that these began and that still stand
 pub record Seen : Type 0 where
   pub posted : List Posted
   pub updates : ℕ
   pub visits : List Visit
+  pub waits : List Standing
 
 abbrev pub nothing_seen : Seen
-nothing_seen = record { posted = []; updates = 0; visits = [] }
+nothing_seen = record { posted = []; updates = 0; visits = []; waits = [] }
 
 -- ---- which `<=` posted an update
 
@@ -68,24 +79,83 @@ updates_after (Run p) n = n
 updates_after Update n = suc n
 updates_after Advance n = 0
 
+-- ---- which waits stand, and what wakes them
+
+-- the values before a step and after it, and the named event that it triggers
+pub record News : Type 0 where
+  pub before : List Vector
+  pub after : List Vector
+  pub triggered : Option ℕ
+
+-- 9.7.2, 9.7.6: what `@` and `wait` wait for. An `assign` isn't such a wait: it reads what it waits for
+abbrev pub terms_of : Option Action → List Term
+terms_of (Some (EventControl terms body)) = terms
+terms_of (Some (Wait condition terms body)) = terms
+terms_of _ = []
+
+abbrev pub is_wait : Option Action → Bool
+is_wait (Some (EventControl terms body)) = true
+is_wait (Some (Wait condition terms body)) = true
+is_wait _ = false
+
+-- 9.7.2, 9.7.3: of a wait, that a term of it comes
+abbrev pub awaited_by : Standing → Term → Thing
+awaited_by wait (terms.Change edge n) = things.Wait wait.process wait.number (awaited.Variable n)
+awaited_by wait (terms.Event event) = things.Wait wait.process wait.number (awaited.Event event)
+
+-- the wait that a visit with this number begins, a step of the action at a place, if it begins one, and its process has something left
+abbrev pub begun_by : List Action → Choice → ℕ → ℕ → Disposition → Option ℕ → Option Standing
+begun_by actions (Run p) place number (Waiting at) (Some left) =
+    if is_wait (slice_get actions place) then Some (record { process = p; number = number; place = place }) else None
+begun_by actions c place number disposition left = None
+
+-- a visit that begins a wait reads each of its terms
+abbrev pub read_by_wait : List Action → Option Standing → List Thing
+read_by_wait actions None = []
+read_by_wait actions (Some wait) = map (awaited_by wait) (terms_of (slice_get actions wait.place))
+
+-- 9.7.4: of these terms of a wait those that come by a change
+abbrev pub heard_by : News → Standing → List Term → List Thing
+heard_by news wait [] = []
+heard_by news wait (term ∷ terms) =
+    if hears news.before news.after news.triggered term then awaited_by wait term ∷ heard_by news wait terms else heard_by news wait terms
+
+-- what a change wakes of the waits that stand
+abbrev pub woken_by : List Action → News → List Standing → List Thing
+woken_by actions news [] = []
+woken_by actions news (wait ∷ waits) =
+    heard_by news wait (terms_of (slice_get actions wait.place)) ++ woken_by actions news waits
+
+-- the waits that stand on
+abbrev pub standing_on : List Action → News → List Standing → List Standing
+standing_on actions news [] = []
+standing_on actions news (wait ∷ waits) =
+    if any_hears news.before news.after news.triggered (terms_of (slice_get actions wait.place)) then standing_on actions news waits
+    else wait ∷ standing_on actions news waits
+
 -- ---- visits
-
--- 11.4: an update writes the variables of its parts
-abbrev pub thing_of_part : Part → Thing
-thing_of_part part = Variable (variable_of part)
-
-abbrev pub footprint_of_update : List Part → Footprint
-footprint_of_update parts = record { reads = []; writes = map thing_of_part parts }
 
 abbrev pub actor_of : Choice → ℕ → Actor
 actor_of (Run p) place = Process p
 actor_of Update place = UpdateOf place
 actor_of Advance place = UpdateOf place
 
-abbrev pub footprint_by : Design → Choice → ℕ → Effect → Footprint
-footprint_by design (Run p) place effect = footprint_at (slice_get design.actions place) (is_some effect.held)
-footprint_by design Update place effect = footprint_of_update effect.wrote
-footprint_by design Advance place effect = nothing
+-- what a step evaluates; an update nothing (11.4)
+abbrev pub evaluated_by : Design → Choice → ℕ → Effect → List Thing
+evaluated_by design (Run p) place effect = reads_at (slice_get design.actions place) (is_some effect.held)
+evaluated_by design Update place effect = []
+evaluated_by design Advance place effect = []
+
+abbrev pub news_of : State → Transition → News
+news_of state step = record { before = state.values; after = step.state.values; triggered = step.effect.triggered }
+
+-- what the step of a choice, of the action at a place, reads and changes: it reads what it evaluates, and the wait that it begins; it changes
+-- variables, those of these waits that it wakes, and the end of the run. What changes a variable reads that the run goes on
+abbrev pub footprint_by : Design → Choice → ℕ → News → Effect → Option Standing → List Standing → Footprint
+footprint_by design c place news effect begun waits = record {
+  reads = evaluated_by design c place effect ++ (read_by_wait design.actions begun ++ while_it_goes (changed_by news.before news.after effect.wrote));
+  changes = changed_by news.before news.after effect.wrote ++ (woken_by design.actions news waits ++ ended_by effect.cause);
+}
 
 abbrev pub same_actor : Actor → Actor → Bool
 same_actor (Process p) (Process q) = p == q
@@ -105,21 +175,34 @@ visits_by actor (v ∷ visits) = if same_actor actor v.actor then suc (visits_by
 abbrev pub visit_of : ℕ → Actor → ℕ → Footprint → List Visit → Visit
 visit_of n actor place footprint before = record { step = n; actor = actor; number = visits_by actor before; place = place; footprint = footprint }
 
-abbrev pub with_visit : Design → ℕ → Choice → Option ℕ → Effect → List Visit → List Visit
-with_visit design n c None effect before = before
-with_visit design n c (Some place) effect before = before ++ visit_of n (actor_of c place) place (footprint_by design c place effect) before ∷ []
+-- with the visit of step n, which has something left to do
+abbrev pub with_visit : Design → ℕ → Choice → Option ℕ → News → Option ℕ → Effect → List Standing → List Visit → List Visit
+with_visit design n c None news left effect waits before = before
+with_visit design n c (Some place) news left effect waits before =
+    let begun = begun_by design.actions c place (visits_by (actor_of c place) before) effect.disposition left in
+    before ++ visit_of n (actor_of c place) place (footprint_by design c place news effect begun waits) before ∷ []
+
+-- the waits that stand after it
+abbrev pub with_waits : Design → Choice → Option ℕ → News → Option ℕ → Effect → List Visit → List Standing → List Standing
+with_waits design c None news left effect before waits = waits
+with_waits design c (Some place) news left effect before waits =
+    standing_on design.actions news waits
+    ++ option_to_list (begun_by design.actions c place (visits_by (actor_of c place) before) effect.disposition left)
 
 -- what is seen after step n too, which is of choice c, where visits are seen from step s on
-abbrev pub seen_by : Design → ℕ → ℕ → State → Choice → Effect → Seen → Seen
-seen_by design s n state c effect seen = record {
-  posted = seen.posted ++ posted_by state.queue.time (acting_place state c) effect.posted;
+abbrev pub seen_by : Design → ℕ → ℕ → State → Choice → Transition → Seen → Seen
+seen_by design s n state c step seen = record {
+  posted = seen.posted ++ posted_by state.queue.time (acting_place state c) step.effect.posted;
   updates = updates_after c seen.updates;
-  visits = if nat_lt n s then seen.visits else with_visit design n c (place_by state seen c) effect seen.visits;
+  visits = if nat_lt n s then seen.visits else
+      with_visit design n c (place_by state seen c) (news_of state step) (acting_place step.state c) step.effect seen.waits seen.visits;
+  waits = if nat_lt n s then seen.waits else
+      with_waits design c (place_by state seen c) (news_of state step) (acting_place step.state c) step.effect seen.visits seen.waits;
 }
 
-abbrev pub seen_next : Design → ℕ → ℕ → State → Option Choice → Effect → Seen → Seen
-seen_next design s n state None effect seen = seen
-seen_next design s n state (Some c) effect seen = seen_by design s n state c effect seen
+abbrev pub seen_next : Design → ℕ → ℕ → State → Option Choice → Transition → Seen → Seen
+seen_next design s n state None step seen = seen
+seen_next design s n state (Some c) step seen = seen_by design s n state c step seen
 
 -- ---- step n of the run under a log
 
@@ -129,7 +212,7 @@ choice_of setting log n = slice_get (choices (state_after setting log n)) (choic
 abbrev pub seen_after : Setting → List (ℕ × ℕ) → ℕ → ℕ → Seen
 seen_after setting log s zero = nothing_seen
 seen_after setting log s (suc n) =
-    seen_next setting.design s n (state_after setting log n) (choice_of setting log n) (next setting.design (state_after setting log n) (choice_at log n)).effect
+    seen_next setting.design s n (state_after setting log n) (choice_of setting log n) (next setting.design (state_after setting log n) (choice_at log n))
     (seen_after setting log s n)
 
 -- the visits of steps s to n - 1

@@ -1,23 +1,29 @@
-// What a step of an action reads and what it writes.
+// What a step of an action reads, and what a step changes.
 
-ghost use Rattle.std.specs.Prelude.{◌≡◌, [], ◌∷◌, ◌++◌, map, slice_get, IfOk, OnOk};
+ghost use Rattle.std.specs.Prelude.{◌≡◌, [], ◌∷◌, ◌++◌, slice_get, IfOk, OnOk};
 ghost use Rattle.std.specs.List.{flat_map};
 ghost use Rattle.footprints.specs.Footprints as spec;
 ghost use Rattle.footprints.specs.Footprints.{named_in};
 ghost use Rattle.footprints.specs.Inner.{named_by};
+ghost use Rattle.footprints.specs.declared.thing.Thing.TheVariants as thing;
 
 use crate::thing::{Thing, Things};
 use basis::NoMemory;
+use sched_core::end::Cause;
 use std::alloc::Global;
-use vdesign::action::{Action, Branch, Branches, Target, Targets, Term, Terms};
+use vbits::Vec4;
+use vdesign::action::{Action, Branch, Branches, Edge, Target, Targets};
 use vdesign::expression::{Expression, Node};
 use vdesign::print::{Piece, Pieces, When};
+use vmodel::is_edge;
+use vmodel::part::Part;
+use vmodel::values::value_in;
 
-/// What a step reads, and what it writes.
+/// What a step reads, and what it changes.
 #[derive(Drop)]
 pub struct Footprint {
     pub reads: Things,
-    pub writes: Things,
+    pub changes: Things,
 }
 
 // What a node of an expression names.
@@ -72,26 +78,6 @@ fn put_indices(things: &mut Vec<Thing>, targets: &[Target]) -> Result<(), NoMemo
     Ok(())
 }
 
-// What a target is of (6.2).
-fn target_of(target: &Target) -> Thing
-    ensures { result ≡ spec.target_of target.now }
-{
-    match target {
-        Target::Whole(number) => Thing::Variable(*number),
-        Target::Bit { variable, .. } => Thing::Variable(*variable),
-        Target::Part { variable, .. } => Thing::Variable(*variable),
-    }
-}
-
-fn put_targets(things: &mut Vec<Thing>, targets: &[Target]) -> Result<(), NoMemory>
-    ensures { OnOk result (things.new.items ≡ things.old.items ++ map spec.target_of targets.now) }
-{
-    for target in targets {
-        things.push(target_of(target))?;
-    }
-    Ok(())
-}
-
 // What the item of a branch names (9.5).
 fn put_branch(things: &mut Vec<Thing>, branch: &Branch) -> Result<(), NoMemory>
     ensures { OnOk result (things.new.items ≡ things.old.items ++ spec.named_in_branch branch.now) }
@@ -104,25 +90,6 @@ fn put_branches(things: &mut Vec<Thing>, branches: &[Branch]) -> Result<(), NoMe
 {
     for branch in branches {
         put_branch(things, branch)?;
-    }
-    Ok(())
-}
-
-// What a term waits for (9.7.2, 9.7.3).
-fn thing_of_term(term: &Term) -> Thing
-    ensures { result ≡ spec.thing_of_term term.now }
-{
-    match term {
-        Term::Change { variable, .. } => Thing::Variable(*variable),
-        Term::Event(event) => Thing::Event(*event),
-    }
-}
-
-fn put_awaited(things: &mut Vec<Thing>, terms: &[Term]) -> Result<(), NoMemory>
-    ensures { OnOk result (things.new.items ≡ things.old.items ++ map spec.thing_of_term terms.now) }
-{
-    for term in terms {
-        things.push(thing_of_term(term))?;
     }
     Ok(())
 }
@@ -146,35 +113,22 @@ fn put_pieces(things: &mut Vec<Thing>, pieces: &[Piece]) -> Result<(), NoMemory>
     Ok(())
 }
 
-impl Footprint {
-    /// That of a step that reads and writes nothing.
-    pub fn nothing(alloc: Global) -> Footprint
-        ensures { result ≡ spec.nothing }
-    {
-        Footprint {
-            reads: Things::none(alloc),
-            writes: Things::none(alloc),
-        }
-    }
+// What names these things, and goes to targets (6.2, 9.2).
+fn with_indices(names: Vec<Thing>, targets: &Targets) -> Result<Things, NoMemory>
+    ensures { IfOk result (λ things. things ≡ spec.with_indices names.items targets.now) }
+{
+    let mut things = names;
+    put_indices(&mut things, targets.as_slice())?;
+    Ok(Things::new(things))
 }
 
-// A step that reads these things.
-fn footprint_of_reads(alloc: Global, reads: Vec<Thing>) -> Footprint
-    ensures { result ≡ spec.footprint_of_reads reads.items }
+// What an expression names.
+fn names_of(alloc: Global, expression: &Expression) -> Result<Things, NoMemory>
+    ensures { IfOk result (λ things. things ≡ named_in expression.now) }
 {
-    Footprint {
-        reads: Things::new(reads),
-        writes: Things::none(alloc),
-    }
-}
-
-// A step that evaluates an expression.
-fn footprint_of_expression(alloc: Global, expression: &Expression) -> Result<Footprint, NoMemory>
-    ensures { IfOk result (λ found. found ≡ spec.footprint_of_reads (named_in expression.now)) }
-{
-    let mut reads = Vec::new(alloc);
-    put_named(&mut reads, expression)?;
-    Ok(footprint_of_reads(alloc, reads))
+    let mut names = Vec::new(alloc);
+    put_named(&mut names, expression)?;
+    Ok(Things::new(names))
 }
 
 // What a delay and a value name.
@@ -191,170 +145,185 @@ fn names_of_both(
     Ok(names)
 }
 
-// A step that reads these things, and writes targets (6.2).
-fn footprint_of_writes(
-    alloc: Global,
-    names: Vec<Thing>,
-    targets: &Targets,
-) -> Result<Footprint, NoMemory>
-    ensures { IfOk result (λ found. found ≡ spec.footprint_of_writes names.items targets.now) }
-{
-    let mut reads = names;
-    put_indices(&mut reads, targets.as_slice())?;
-    let mut writes = Vec::new(alloc);
-    put_targets(&mut writes, targets.as_slice())?;
-    Ok(Footprint {
-        reads: Things::new(reads),
-        writes: Things::new(writes),
-    })
-}
-
 // An assignment, at once, posted or continuous (6.1, 9.2).
-fn footprint_of_assignment(
+fn reads_of_assignment(
     alloc: Global,
     targets: &Targets,
     value: &Expression,
-) -> Result<Footprint, NoMemory>
-    ensures { IfOk result (λ found. found ≡ spec.footprint_of_writes (named_in value.now) targets.now) }
+) -> Result<Things, NoMemory>
+    ensures { IfOk result (λ things. things ≡ spec.with_indices (named_in value.now) targets.now) }
 {
     let mut names = Vec::new(alloc);
     put_named(&mut names, value)?;
-    footprint_of_writes(alloc, names, targets)
+    with_indices(names, targets)
 }
 
 // A nonblocking assignment with a delay (9.7.7).
-fn footprint_of_delayed(
+fn reads_of_delayed(
     alloc: Global,
     amount: &Expression,
     targets: &Targets,
     value: &Expression,
-) -> Result<Footprint, NoMemory>
-    ensures { IfOk result (λ found.
-        found ≡ spec.footprint_of_writes (named_in amount.now ++ named_in value.now) targets.now) }
+) -> Result<Things, NoMemory>
+    ensures { IfOk result (λ things.
+        things ≡ spec.with_indices (named_in amount.now ++ named_in value.now) targets.now) }
 {
     let names = names_of_both(alloc, amount, value)?;
-    footprint_of_writes(alloc, names, targets)
+    with_indices(names, targets)
 }
 
 // A step of a suspended assignment, after which the process holds its value, or has written it (9.7.7).
-fn footprint_of_suspended(
+fn reads_of_suspended(
     alloc: Global,
     amount: &Expression,
     targets: &Targets,
     value: &Expression,
     holds: bool,
-) -> Result<Footprint, NoMemory>
-    ensures { IfOk result (λ found.
-        found ≡ spec.footprint_of_suspended holds (named_in amount.now ++ named_in value.now) targets.now) }
+) -> Result<Things, NoMemory>
+    ensures { IfOk result (λ things.
+        things ≡ spec.reads_of_suspended holds (named_in amount.now ++ named_in value.now) targets.now) }
 {
     if holds {
         let names = names_of_both(alloc, amount, value)?;
-        return Ok(footprint_of_reads(alloc, names));
+        return Ok(Things::new(names));
     }
-    footprint_of_writes(alloc, Vec::new(alloc), targets)
+    with_indices(Vec::new(alloc), targets)
 }
 
 // `case` (9.5).
-fn footprint_of_case(
-    alloc: Global,
-    value: &Expression,
-    branches: &Branches,
-) -> Result<Footprint, NoMemory>
-    ensures { IfOk result (λ found.
-        found ≡ spec.footprint_of_reads (named_in value.now ++ flat_map spec.named_in_branch branches.now)) }
+fn reads_of_case(alloc: Global, value: &Expression, branches: &Branches) -> Result<Things, NoMemory>
+    ensures { IfOk result (λ things.
+        things ≡ named_in value.now ++ flat_map spec.named_in_branch branches.now) }
 {
     let mut reads = Vec::new(alloc);
     put_named(&mut reads, value)?;
     put_branches(&mut reads, branches.as_slice())?;
-    Ok(footprint_of_reads(alloc, reads))
-}
-
-// An event control (9.7.2).
-fn footprint_of_event_control(alloc: Global, terms: &Terms) -> Result<Footprint, NoMemory>
-    ensures { IfOk result (λ found. found ≡ spec.footprint_of_reads (map spec.thing_of_term terms.now)) }
-{
-    let mut reads = Vec::new(alloc);
-    put_awaited(&mut reads, terms.as_slice())?;
-    Ok(footprint_of_reads(alloc, reads))
+    Ok(Things::new(reads))
 }
 
 // A print task (17.1).
-fn footprint_of_print(alloc: Global, when: When, pieces: &Pieces) -> Result<Footprint, NoMemory>
-    ensures { IfOk result (λ found. found ≡ spec.footprint_of_reads (spec.named_in_print when pieces.now)) }
+fn reads_of_print(alloc: Global, when: When, pieces: &Pieces) -> Result<Things, NoMemory>
+    ensures { IfOk result (λ things. things ≡ thing.End ∷ spec.named_in_print when pieces.now) }
 {
     let mut reads = Vec::new(alloc);
+    reads.push(Thing::End)?;
     match when {
         When::Now => put_pieces(&mut reads, pieces.as_slice())?,
         When::AtSlotEnd => {}
         When::AtChange => {}
     }
-    Ok(footprint_of_reads(alloc, reads))
+    Ok(Things::new(reads))
 }
 
-// `-> event` (9.7.3).
-fn footprint_of_trigger(alloc: Global, event: usize) -> Result<Footprint, NoMemory>
-    ensures { IfOk result (λ found. found ≡ spec.footprint_of_trigger event) }
-{
-    let writes = Things::one(alloc, Thing::Event(event))?;
-    Ok(Footprint {
-        reads: Things::none(alloc),
-        writes,
-    })
-}
-
-/// What a step of an action reads and writes, after which its process holds a value, or none.
-pub fn footprint_of(alloc: Global, action: &Action, holds: bool) -> Result<Footprint, NoMemory>
-    ensures { IfOk result (λ found. found ≡ spec.footprint_of action.now holds) }
+/// What a step of an action reads, after which its process holds a value, or none.
+pub fn reads_of(alloc: Global, action: &Action, holds: bool) -> Result<Things, NoMemory>
+    ensures { IfOk result (λ things. things ≡ spec.reads_of action.now holds) }
 {
     match action {
-        Action::Assign { targets, value } => footprint_of_assignment(alloc, targets, value),
-        Action::Nonblocking { targets, value } => footprint_of_assignment(alloc, targets, value),
+        Action::Assign { targets, value } => reads_of_assignment(alloc, targets, value),
+        Action::Nonblocking { targets, value } => reads_of_assignment(alloc, targets, value),
         Action::AssignDelayed {
             amount,
             targets,
             value,
-        } => footprint_of_suspended(alloc, amount, targets, value, holds),
+        } => reads_of_suspended(alloc, amount, targets, value, holds),
         Action::NonblockingDelayed {
             amount,
             targets,
             value,
-        } => footprint_of_delayed(alloc, amount, targets, value),
-        Action::Trigger(event) => footprint_of_trigger(alloc, *event),
-        Action::Test { condition, .. } => footprint_of_expression(alloc, condition),
+        } => reads_of_delayed(alloc, amount, targets, value),
+        Action::Trigger(_) => Ok(Things::none(alloc)),
+        Action::Test { condition, .. } => names_of(alloc, condition),
         Action::Case {
             value,
             branches,
             ..
-        } => footprint_of_case(alloc, value, branches),
-        Action::While { condition, .. } => footprint_of_expression(alloc, condition),
-        Action::Repeat { count, .. } => footprint_of_expression(alloc, count),
-        Action::Forever { .. } => Ok(Footprint::nothing(alloc)),
-        Action::Delay { amount, .. } => footprint_of_expression(alloc, amount),
-        Action::EventControl { terms, .. } => footprint_of_event_control(alloc, terms),
-        Action::Wait { condition, .. } => footprint_of_expression(alloc, condition),
-        Action::ContinuousAssign { targets, value, .. } => footprint_of_assignment(
+        } => reads_of_case(alloc, value, branches),
+        Action::While { condition, .. } => names_of(alloc, condition),
+        Action::Repeat { count, .. } => names_of(alloc, count),
+        Action::Forever { .. } => Ok(Things::none(alloc)),
+        Action::Delay { amount, .. } => names_of(alloc, amount),
+        Action::EventControl { .. } => Ok(Things::none(alloc)),
+        Action::Wait { condition, .. } => names_of(alloc, condition),
+        Action::ContinuousAssign { targets, value, .. } => reads_of_assignment(
             alloc, targets, value,
         ),
-        Action::Print { when, pieces } => footprint_of_print(alloc, *when, pieces),
-        Action::DumpVars(_) => Ok(Footprint::nothing(alloc)),
-        Action::Dump(_) => Ok(Footprint::nothing(alloc)),
-        Action::NoOperation => Ok(Footprint::nothing(alloc)),
-        Action::Finish => Ok(Footprint::nothing(alloc)),
-        Action::Stop => Ok(Footprint::nothing(alloc)),
+        Action::Print { when, pieces } => reads_of_print(alloc, *when, pieces),
+        Action::DumpVars(_) => Ok(Things::none(alloc)),
+        Action::Dump(_) => Ok(Things::none(alloc)),
+        Action::NoOperation => Ok(Things::none(alloc)),
+        Action::Finish => Ok(Things::none(alloc)),
+        Action::Stop => Ok(Things::none(alloc)),
     }
 }
 
 /// The same of the action at a place of the table, if there is one.
-pub fn footprint_at(
+pub fn reads_at(
     alloc: Global,
     actions: &[Action],
     place: usize,
     holds: bool,
-) -> Result<Footprint, NoMemory>
-    ensures { IfOk result (λ found. found ≡ spec.footprint_at (slice_get actions.now place) holds) }
+) -> Result<Things, NoMemory>
+    ensures { IfOk result (λ things. things ≡ spec.reads_at (slice_get actions.now place) holds) }
 {
     match actions.get(place) {
-        None => Ok(Footprint::nothing(alloc)),
-        Some(action) => footprint_of(alloc, action, holds),
+        None => Ok(Things::none(alloc)),
+        Some(action) => reads_of(alloc, action, holds),
     }
+}
+
+// The variable of a part, if it has another value after than before.
+fn put_if_changed(
+    things: &mut Vec<Thing>,
+    before: &[Vec4],
+    after: &[Vec4],
+    part: Part,
+) -> Result<(), NoMemory>
+    ensures { OnOk result (things.new.items ≡ things.old.items ++ spec.changed_by before.now after.now (part ∷ [])) }
+{
+    let variable = part.variable();
+    if is_edge(
+        Edge::Any,
+        value_in(before, variable),
+        value_in(after, variable),
+    ) {
+        things.push(Thing::Variable(variable))?;
+    }
+    Ok(())
+}
+
+/// Of the variables of these parts those that have another value after than before.
+pub(crate) fn put_changed(
+    things: &mut Vec<Thing>,
+    before: &[Vec4],
+    after: &[Vec4],
+    parts: &[Part],
+) -> Result<(), NoMemory>
+    ensures { OnOk result (things.new.items ≡ things.old.items ++ spec.changed_by before.now after.now parts.now) }
+{
+    for part in parts {
+        put_if_changed(things, before, after, *part)?;
+    }
+    Ok(())
+}
+
+/// Of what a step changes and reads, that the run goes on where it changes something.
+pub(crate) fn put_while_it_goes(things: &mut Vec<Thing>, changed: &[Thing]) -> Result<(), NoMemory>
+    ensures { OnOk result (things.new.items ≡ things.old.items ++ spec.while_it_goes changed.now) }
+{
+    if !changed.is_empty() {
+        things.push(Thing::End)?;
+    }
+    Ok(())
+}
+
+/// The end of the run, where a step ends it (17.4).
+pub(crate) fn put_ended(things: &mut Vec<Thing>, cause: Option<Cause>) -> Result<(), NoMemory>
+    ensures { OnOk result (things.new.items ≡ things.old.items ++ spec.ended_by cause) }
+{
+    match cause {
+        None => {}
+        Some(_) => things.push(Thing::End)?,
+    }
+    Ok(())
 }

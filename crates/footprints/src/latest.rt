@@ -14,13 +14,16 @@ use std::alloc::Global;
 #[derive(Drop)]
 pub struct Table {
     variables: Vec<usize>,
-    events: Vec<usize>,
+    // of all waits of a process one
+    waits: Vec<usize>,
+    // at its place 0
+    ends: Vec<usize>,
 }
 
-/// Of what visits write, and of what they read or write, the greatest of the places that were put for them.
+/// Of what visits change, and of what they read or change, the greatest of the places that were put for them.
 #[derive(Drop)]
 pub struct Latest {
-    written: Table,
+    changed: Table,
     touched: Table,
 }
 
@@ -70,7 +73,8 @@ impl Table {
     fn new(alloc: Global) -> Table {
         Table {
             variables: Vec::new(alloc),
-            events: Vec::new(alloc),
+            waits: Vec::new(alloc),
+            ends: Vec::new(alloc),
         }
     }
 
@@ -80,7 +84,8 @@ impl Table {
     {
         match thing {
             Thing::Variable(number) => number_at(&self.variables, *number as usize),
-            Thing::Event(number) => number_at(&self.events, *number),
+            Thing::Wait { process, .. } => number_at(&self.waits, *process as usize),
+            Thing::End => number_at(&self.ends, 0),
         }
     }
 
@@ -91,7 +96,8 @@ impl Table {
     {
         match thing {
             Thing::Variable(place) => raise_at(&mut self.variables, *place as usize, number),
-            Thing::Event(place) => raise_at(&mut self.events, *place, number),
+            Thing::Wait { process, .. } => raise_at(&mut self.waits, *process as usize, number),
+            Thing::End => raise_at(&mut self.ends, 0, number),
         }
     }
 
@@ -122,7 +128,7 @@ impl Latest {
     /// Nothing was put.
     pub fn new(alloc: Global) -> Latest {
         Latest {
-            written: Table::new(alloc),
+            changed: Table::new(alloc),
             touched: Table::new(alloc),
         }
     }
@@ -133,18 +139,19 @@ impl Latest {
         ensures put { OnOk result (spec.Reaches place self.new footprint.now) }
     {
         let reads = footprint.reads.as_slice();
-        let writes = footprint.writes.as_slice();
+        let changes = footprint.changes.as_slice();
         self.touched.raise_all(reads, place)?;
-        self.touched.raise_all(writes, place)?;
-        self.written.raise_all(writes, place)
+        self.touched.raise_all(changes, place)?;
+        self.changed.raise_all(changes, place)
     }
 
     /// The greatest place of a visit that touches one of these things.
     pub fn of(&self, footprint: &Footprint) -> usize
         ensures { result ≡ spec.latest_of self.now footprint.now }
     {
-        let writes = footprint.writes.as_slice();
-        let of_writes = self.touched.greatest(writes, 0);
-        self.written.greatest(footprint.reads.as_slice(), of_writes)
+        let changes = footprint.changes.as_slice();
+        let of_changes = self.touched.greatest(changes, 0);
+        self.changed
+            .greatest(footprint.reads.as_slice(), of_changes)
     }
 }

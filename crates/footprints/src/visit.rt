@@ -3,20 +3,26 @@
 ghost use Rattle.std.specs.Prelude.{◌≡◌, ◌∷◌, ◌++◌, ◌+◌, ◌≤◌, ◌<◌, [], ℕ, nat_lt, suc, map, slice_get, is_some, length, option_map, if◌then◌else◌, take, IfOk, IfSome, IfNone, OnOk, Some, None};
 ghost use Rattle.vmodel.specs.Effects.{Effect};
 ghost use Rattle.vmodel.specs.State.{State};
+ghost use Rattle.vmodel.specs.Step.{Transition};
 ghost use Rattle.footprints.specs.Numbered.{AreNumbered};
 ghost use Rattle.footprints.specs.Keeping as keeping;
+ghost use Rattle.footprints.specs.Footprints as footprints;
 ghost use Rattle.footprints.specs.Visits as spec;
+ghost use Rattle.std.specs.Option.{option_to_list};
 
-use crate::footprint::{Footprint, footprint_at};
+use crate::footprint::{Footprint, put_changed, put_ended, put_while_it_goes, reads_at};
 use crate::thing::{Thing, Things};
+use crate::wait::{News, Standing, begun_by, put_read_by_wait, put_woken, standing_on};
 use basis::NoMemory;
 use plain_steps::State;
 use std::alloc::Global;
 use std::marker::Model;
+use vbits::Vec4;
+use vdesign::action::Action;
 use vdesign::design::Design;
 use vmodel::choice::Choice;
 use vmodel::effect::{Effect, Post};
-use vmodel::part::{Kept, Part};
+use vmodel::part::Kept;
 
 /// Who makes a visit.
 #[derive(Clone, Copy, PartialEq, Eq)]
@@ -28,7 +34,7 @@ pub enum Actor {
 }
 
 /// A visit: the step that it is, who makes it, how many visits of his came before it, the place of its action, and what it reads and
-/// writes.
+/// changes.
 #[derive(Drop)]
 pub struct Visit {
     pub step: u32,
@@ -52,6 +58,7 @@ pub struct Seen {
     posted: Vec<Posted>,
     updates: usize,
     visits: Vec<Visit>,
+    waits: Vec<Standing>,
 }
 
 impl Model for Seen {
@@ -59,7 +66,7 @@ impl Model for Seen {
 
     ghost Value = { seen.Seen };
 
-    ghost view = { λ s. record { posted = s.posted.items; updates = s.updates; visits = s.visits.items } };
+    ghost view = { λ s. record { posted = s.posted.items; updates = s.updates; visits = s.visits.items; waits = s.waits.items } };
 
     ghost use Rattle.footprints.specs.Numbered.{AreNumbered};
 
@@ -197,62 +204,98 @@ fn actor_of(choice: Choice, place: usize) -> Actor
     }
 }
 
-// The variables of written parts (11.4).
-fn put_parts(things: &mut Vec<Thing>, parts: &[Part]) -> Result<(), NoMemory>
-    ensures { OnOk result (things.new.items ≡ things.old.items ++ map spec.thing_of_part parts.now) }
+// The variables that a step changes.
+fn changed_by(alloc: Global, news: &News<'_>, effect: &Effect) -> Result<Vec<Thing>, NoMemory>
+    ensures { IfOk result (λ changed. changed.items ≡ footprints.changed_by news.now.before news.now.after effect.now.wrote) }
 {
-    for part in parts {
-        things.push(Thing::Variable(part.variable()))?;
-    }
-    Ok(())
-}
-
-// What an update writes (11.4).
-fn footprint_of_update(alloc: Global, effect: &Effect) -> Result<Footprint, NoMemory>
-    ensures { IfOk result (λ found. found ≡ spec.footprint_of_update effect.now.wrote) }
-{
-    let mut writes = Vec::new(alloc);
+    let mut changed = Vec::new(alloc);
     match effect.wrote() {
-        Kept::One(part) => put_parts(&mut writes, &[part])?,
-        Kept::Many(parts) => put_parts(&mut writes, parts)?,
+        Kept::One(part) => put_changed(&mut changed, news.before, news.after, &[part])?,
+        Kept::Many(parts) => put_changed(&mut changed, news.before, news.after, parts)?,
     }
-    Ok(Footprint {
-        reads: Things::none(alloc),
-        writes: Things::new(writes),
-    })
+    Ok(changed)
 }
 
-// What a step of a choice reads and writes.
-fn footprint_by(
+// What a step of a choice evaluates.
+fn evaluated_by(
     alloc: Global,
     design: &Design,
     choice: Choice,
     place: usize,
     effect: &Effect,
-) -> Result<Footprint, NoMemory>
-    ensures { IfOk result (λ found. found ≡ spec.footprint_by design.now choice place effect.now) }
+) -> Result<Things, NoMemory>
+    ensures { IfOk result (λ things. things ≡ spec.evaluated_by design.now choice place effect.now) }
 {
     match choice {
-        Choice::Run(_) => footprint_at(alloc, &design.actions, place, effect.held().is_some()),
-        Choice::Update => footprint_of_update(alloc, effect),
-        Choice::Advance => Ok(Footprint::nothing(alloc)),
+        Choice::Run(_) => reads_at(alloc, &design.actions, place, effect.held().is_some()),
+        Choice::Update => Ok(Things::none(alloc)),
+        Choice::Advance => Ok(Things::none(alloc)),
     }
 }
 
-// The visit of a step.
+// What a step of a choice reads and changes, which begins this wait.
+fn footprint_by(
+    alloc: Global,
+    design: &Design,
+    choice: Choice,
+    place: usize,
+    news: &News<'_>,
+    effect: &Effect,
+    begun: Option<Standing>,
+    waits: &[Standing],
+) -> Result<Footprint, NoMemory>
+    ensures { IfOk result (λ found. found ≡ spec.footprint_by design.now choice place news.now effect.now begun waits.now) }
+{
+    let mut changes = changed_by(alloc, news, effect)?;
+    let mut reads = evaluated_by(alloc, design, choice, place, effect)?.into_list();
+    put_read_by_wait(&mut reads, &design.actions, begun)?;
+    put_while_it_goes(&mut reads, &changes)?;
+    put_woken(&mut changes, &design.actions, news, waits)?;
+    put_ended(&mut changes, effect.cause())?;
+    Ok(Footprint {
+        reads: Things::new(reads),
+        changes: Things::new(changes),
+    })
+}
+
+// The waits that stand after a step that begins this one.
+fn with_waits(
+    alloc: Global,
+    actions: &[Action],
+    news: &News<'_>,
+    begun: Option<Standing>,
+    waits: &[Standing],
+) -> Result<Vec<Standing>, NoMemory>
+    ensures { IfOk result (λ left. left.items
+        ≡ spec.standing_on actions.now news.now waits.now ++ option_to_list begun) }
+{
+    let mut left = standing_on(alloc, actions, news, waits)?;
+    match begun {
+        None => {}
+        Some(wait) => left.push(wait)?,
+    }
+    Ok(left)
+}
+
+// The visit of a step, and the waits that stand after it.
 #[tactic(auto, using(crate::proofs::NumberLemmas::numbered_on))]
 fn put_visit(
     alloc: Global,
     visits: &mut Vec<Visit>,
+    waits: &mut Vec<Standing>,
     design: &Design,
     step: u32,
     choice: Choice,
     place: Option<usize>,
+    news: &News<'_>,
+    left: Option<usize>,
     effect: &Effect,
 ) -> Result<(), NoMemory>
     requires { AreNumbered visits.old.items }
     ensures ok { OnOk result (visits.new.items
-        ≡ spec.with_visit design.now step choice place effect.now visits.old.items) }
+        ≡ spec.with_visit design.now step choice place news.now left effect.now waits.old.items visits.old.items) }
+    ensures waits { OnOk result (waits.new.items
+        ≡ spec.with_waits design.now choice place news.now left effect.now visits.old.items waits.old.items) }
     ensures numbered { AreNumbered visits.new.items }
 {
     let Some(place) = place else {
@@ -260,7 +303,16 @@ fn put_visit(
     };
     let actor = actor_of(choice, place);
     let number = visits_by(actor, visits);
-    let footprint = footprint_by(alloc, design, choice, place, effect)?;
+    let begun = begun_by(
+        &design.actions,
+        choice,
+        place,
+        number,
+        effect.disposition(),
+        left,
+    );
+    let footprint = footprint_by(alloc, design, choice, place, news, effect, begun, waits)?;
+    let standing = with_waits(alloc, &design.actions, news, begun, waits)?;
     visits.push(Visit {
         step,
         actor,
@@ -268,6 +320,7 @@ fn put_visit(
         place,
         footprint,
     })?;
+    *waits = standing;
     Ok(())
 }
 
@@ -329,17 +382,19 @@ impl Seen {
             posted: Vec::new(alloc),
             updates: 0,
             visits: Vec::new(alloc),
+            waits: Vec::new(alloc),
         }
     }
 
-    /// The same, but for the visits, of which it has none.
+    /// The same, but for the visits and their waits, of which it has none.
     pub fn copy(&self, alloc: Global) -> Result<Seen, NoMemory>
-        ensures { IfOk result (λ seen. seen ≡ record self.now { visits = [] }) }
+        ensures { IfOk result (λ seen. seen ≡ record self.now { visits = []; waits = [] }) }
     {
         Ok(Seen {
             posted: copy_posted(alloc, &self.posted)?,
             updates: self.updates,
             visits: Vec::new(alloc),
+            waits: Vec::new(alloc),
         })
     }
 
@@ -351,22 +406,24 @@ impl Seen {
         Ok(())
     }
 
-    /// Of the visits none stays.
+    /// Of the visits and their waits none stays.
     pub fn forget_visits(&mut self, alloc: Global)
-        ensures { self.new ≡ record self.old { visits = [] } }
+        ensures { self.new ≡ record self.old { visits = []; waits = [] } }
     {
         self.visits = Vec::new(alloc);
+        self.waits = Vec::new(alloc);
     }
 
-    /// The visits, and the rest.
+    /// The visits, and the rest without their waits.
     pub fn apart(self, alloc: Global) -> (Vec<Visit>, Seen)
         ensures visits { result.0.items ≡ self.visits }
-        ensures rest { result.1 ≡ record self { visits = [] } }
+        ensures rest { result.1 ≡ record self { visits = []; waits = [] } }
     {
         let Seen {
             posted,
             updates,
             visits,
+            waits: _,
         } = self;
         (
             visits,
@@ -374,6 +431,7 @@ impl Seen {
                 posted,
                 updates,
                 visits: Vec::new(alloc),
+                waits: Vec::new(alloc),
             },
         )
     }
@@ -407,7 +465,7 @@ impl Seen {
         }
     }
 
-    /// One more step: at this time, of these places, with this effect. Visits are put from step `from` on.
+    /// One more step: at this time, of these places, with this effect, from these values on to a state. Visits are put from step `from` on.
     pub fn put(
         &mut self,
         alloc: Global,
@@ -418,18 +476,38 @@ impl Seen {
         choice: Choice,
         acting: Option<usize>,
         place: Option<usize>,
+        before: &[Vec4],
+        after: &State,
         effect: &Effect,
     ) -> Result<(), NoMemory>
         requires few { self.old.updates ≤ step }
-        ensures seen { (state : State) → time ≡ state.queue.time → acting ≡ spec.acting_place state choice →
-            (from ≤ step → place ≡ spec.place_by state self.old choice) →
-            OnOk result (self.new ≡ spec.seen_by design.now from step state choice effect.now self.old) }
+        ensures seen { (state : State) (taken : Transition) → time ≡ state.queue.time → acting ≡ spec.acting_place state choice →
+            (from ≤ step → place ≡ spec.place_by state self.old choice) → (from ≤ step → before.now ≡ state.values) →
+            after.now ≡ taken.state → effect.now ≡ taken.effect →
+            OnOk result (self.new ≡ spec.seen_by design.now from step state choice taken self.old) }
         ensures few { OnOk result (self.new.updates ≤ step + 1) }
     {
         put_posted(&mut self.posted, time, acting, effect.posted())?;
         self.updates = updates_after(choice, self.updates);
         if step >= from {
-            put_visit(alloc, &mut self.visits, design, step, choice, place, effect)?;
+            let news = News {
+                before,
+                after: after.values(),
+                triggered: effect.triggered(),
+            };
+            let left = acting_place(after, choice);
+            put_visit(
+                alloc,
+                &mut self.visits,
+                &mut self.waits,
+                design,
+                step,
+                choice,
+                place,
+                &news,
+                left,
+                effect,
+            )?;
         }
         Ok(())
     }

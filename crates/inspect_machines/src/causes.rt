@@ -5,7 +5,7 @@
 use crate::given::{Stop, design_given, grain_at, log_at, number_at, word_at};
 use basis::NoMemory;
 use cause::{Blamed, Cause, Checkpoints, cause_of};
-use footprints::{Actor, Thing};
+use footprints::{Actor, Awaited, Thing};
 use sched_core::Log;
 use sched_core::setting::{Departures, Looked};
 use std::alloc::Global;
@@ -58,7 +58,17 @@ fn show_visit(rt: &impl Print, word: &str, visit: Blamed) -> io::Result<()> {
 fn show_thing(rt: &impl Print, thing: &Thing) -> io::Result<()> {
     match thing {
         Thing::Variable(number) => println!(rt; "variable {number}"),
-        Thing::Event(number) => println!(rt; "event {number}"),
+        Thing::Wait {
+            process,
+            number,
+            of: Awaited::Variable(of),
+        } => println!(rt; "wait {process} {number} variable {of}"),
+        Thing::Wait {
+            process,
+            number,
+            of: Awaited::Event(of),
+        } => println!(rt; "wait {process} {number} event {of}"),
+        Thing::End => println!(rt; "end"),
     }
 }
 

@@ -82,14 +82,19 @@ fn all_differing(alloc: Global, found: &Found<'_>) -> Result<Value, NoMemory> {
     list.whole()
 }
 
-// The log of a run.
-fn put_log(alloc: Global, members: &mut Members, found: &Found<'_>, run: FoundRun<'_>) {
+/// The log of a run.
+pub(crate) fn put_log(alloc: Global, members: &mut Members, found: &Found<'_>, run: FoundRun<'_>) {
     members.made_text("log", found.log(alloc, run.log));
     members.number("steps", u64::from(run.steps));
 }
 
-// A run has the values of the dump.
-fn put_explained(alloc: Global, members: &mut Members, found: &Found<'_>, run: FoundRun<'_>) {
+/// A run has the values of the dump.
+pub(crate) fn put_explained(
+    alloc: Global,
+    members: &mut Members,
+    found: &Found<'_>,
+    run: FoundRun<'_>,
+) {
     members.text("status", b"explained");
     members.number("time", found.last);
     put_log(alloc, members, found, run);
@@ -119,8 +124,8 @@ fn put_unexplained(
     }
 }
 
-// The search was cut.
-fn put_cut(members: &mut Members, found: &Found<'_>, cut: SearchCut) {
+/// The search was cut.
+pub(crate) fn put_cut(members: &mut Members, found: &Found<'_>, cut: SearchCut) {
     members.text("status", b"cut");
     members.text("cut_by", found.cut_by(cut));
     members.value("closed", Value::from(cut.closed));
@@ -145,8 +150,8 @@ fn put_answer(alloc: Global, members: &mut Members, found: &Found<'_>) {
     }
 }
 
-/// What was found, as a JSON document.
-pub fn match_json(alloc: Global, found: &Found<'_>) -> Result<Vec<u8>, NoMemory> {
+/// What was found, as an object.
+pub(crate) fn object_of(alloc: Global, found: &Found<'_>) -> Result<Value, NoMemory> {
     let design = found.setting.design;
     let mut members = Members::new(alloc);
     members.number("version", 1);
@@ -156,5 +161,10 @@ pub fn match_json(alloc: Global, found: &Found<'_>) -> Result<Vec<u8>, NoMemory>
     members.number("slot_departures", u64::from(found.most));
     members.try_value("compared", compared_of(alloc, found.compared));
     put_answer(alloc, &mut members, found);
-    document(alloc, &members.whole()?)
+    members.whole()
+}
+
+/// What was found, as a JSON document.
+pub fn match_json(alloc: Global, found: &Found<'_>) -> Result<Vec<u8>, NoMemory> {
+    document(alloc, &object_of(alloc, found)?)
 }

@@ -3,20 +3,35 @@
 use basis::NoMemory;
 use finding_text::{put_end, put_time};
 use race_findings::Differing;
+use race_words::pieces::put_cut;
 use race_words::{Piece, put, put_all, put_value};
 use sched_core::end::End;
 use std::alloc::Global;
 use vdesign::design::Design;
 
-/// A number of departures a slot, `most`, with which no run has the values that the dump shows at a time; what differs then in the run that
-/// differs least, and where that run has ended, if it has.
+/// A number of departures a slot, `most`, with which no run has the values that a dump shows at a time; what differs then in the run that
+/// differs least, and where that run has ended, if it has. `of` is the dump's name where there are two of them, or `both`; else nothing. `dump` says
+/// which dump has the values that differ.
 #[derive(Clone, Copy)]
 pub struct Refuted<'a> {
     pub design: &'a Design,
+    pub of: &'a str,
+    pub dump: &'a str,
     pub most: u32,
     pub time: u64,
     pub differing: &'a [Differing],
     pub end: Option<End>,
+}
+
+// `theirs.vcd: `, where there is a name.
+fn put_name(text: &mut Vec<u8>, name: &str) -> Result<(), NoMemory> {
+    if name.is_empty() {
+        return Ok(());
+    }
+    put_all(
+        text,
+        &[Piece::Cut(name.as_bytes(), usize::MAX), Piece::Bytes(b": ")],
+    )
 }
 
 // `not explained with at most 2 departures in a slot: at 105ns `
@@ -34,13 +49,21 @@ fn put_level(text: &mut Vec<u8>, refuted: &Refuted<'_>) -> Result<(), NoMemory> 
 }
 
 // `tb.q is 1 in the dump and 0 in the nearest run`
-fn put_first(text: &mut Vec<u8>, design: &Design, differing: &Differing) -> Result<(), NoMemory> {
+fn put_first(
+    text: &mut Vec<u8>,
+    design: &Design,
+    dump: &str,
+    differing: &Differing,
+) -> Result<(), NoMemory> {
     let Some(variable) = design.variables.get(differing.variable) else {
         return Ok(());
     };
-    put_all(text, &[Piece::Bytes(&variable.name), Piece::Bytes(b" is ")])?;
+    put(text, &variable.name)?;
+    put(text, b" is ")?;
     put_value(text, variable, differing.told)?;
-    put(text, b" in the dump and ")?;
+    put(text, b" in ")?;
+    put_cut(text, dump.as_bytes(), usize::MAX)?;
+    put(text, b" and ")?;
     put_value(text, variable, differing.value)?;
     put(text, b" in the nearest run")
 }
@@ -67,7 +90,7 @@ fn put_differing(text: &mut Vec<u8>, refuted: &Refuted<'_>) -> Result<(), NoMemo
     let Some(first) = refuted.differing.first() else {
         return put(text, b"no run is left");
     };
-    put_first(text, refuted.design, first)?;
+    put_first(text, refuted.design, refuted.dump, first)?;
     put_others(text, refuted.differing.len().saturating_sub(1))
 }
 
@@ -75,6 +98,7 @@ fn put_differing(text: &mut Vec<u8>, refuted: &Refuted<'_>) -> Result<(), NoMemo
 /// differs least has ended.
 pub fn level_words(alloc: Global, refuted: &Refuted<'_>) -> Result<Vec<u8>, NoMemory> {
     let mut text = Vec::new(alloc);
+    put_name(&mut text, refuted.of)?;
     put_level(&mut text, refuted)?;
     if refuted.end.is_some() {
         put_ended(&mut text, refuted)?;

@@ -7,11 +7,17 @@
 mod compared;
 mod departures;
 mod json;
+mod json_of_pair;
 mod levels;
+mod pair;
 mod told;
 mod whole;
+mod words_of_pair;
 
 pub use json::match_json;
+pub use json_of_pair::pair_json;
 pub use levels::{Refuted, level_words};
+pub use pair::{Apart, FoundPair, OneOfPair, PairAnswer};
 pub use told::{Departure, Found};
 pub use whole::match_words;
+pub use words_of_pair::pair_words;

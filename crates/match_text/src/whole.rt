@@ -12,8 +12,8 @@ use sched_core::setting::Grain;
 use std::alloc::Global;
 use vdesign::design::Design;
 
-// How many variables are told that differ.
-const NAMED: usize = 8;
+/// How many variables are told that differ.
+pub(crate) const NAMED: usize = 8;
 
 // How many departures a slot may have at most.
 const MOST: u32 = 4;
@@ -60,9 +60,9 @@ fn put_command(
     put(text, b"\n")
 }
 
-// The command that shows the run that explains the dump. Where it has more steps than `vrace replay` takes, the run is shown up to its last
-// departure, behind which it goes on by default.
-fn put_replay(
+/// The command that shows the run that explains the dump. Where it has more steps than `vrace replay` takes, the run is shown up to its last
+/// departure, behind which it goes on by default.
+pub(crate) fn put_replay(
     alloc: Global,
     text: &mut Vec<u8>,
     found: &Found<'_>,
@@ -86,8 +86,12 @@ fn put_replay(
     put_command(alloc, text, found, run.log, until, run.steps)
 }
 
-// How many departures the run has.
-fn put_departed(text: &mut Vec<u8>, departures: usize, most: u32) -> Result<(), NoMemory> {
+/// How many departures the run has.
+pub(crate) fn put_departed(
+    text: &mut Vec<u8>,
+    departures: usize,
+    most: u32,
+) -> Result<(), NoMemory> {
     if departures == 0 {
         return put(text, b"It is the default order.\n");
     }
@@ -242,8 +246,8 @@ fn put_verdict(text: &mut Vec<u8>, found: &Found<'_>, time: u64) -> Result<(), N
     put(text, before)
 }
 
-// What may be tried next where all that is allowed was tried: more departures, or the other grain.
-fn put_hints(text: &mut Vec<u8>, found: &Found<'_>) -> Result<(), NoMemory> {
+/// What may be tried next where all that is allowed was tried: more departures, or the other grain.
+pub(crate) fn put_hints(text: &mut Vec<u8>, found: &Found<'_>) -> Result<(), NoMemory> {
     let more = u64::from(found.most).saturating_add(1);
     let is_coarse = found.setting.grain == Grain::Process;
     if found.beyond.is_some() || (found.most >= MOST && !is_coarse) {

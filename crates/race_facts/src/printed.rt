@@ -57,6 +57,21 @@ struct Walk<'a> {
     state: MachineState,
 }
 
+// A slot in which a run stands, by its time; and whether the run ends the slot, or ends within it.
+#[derive(Clone, Copy)]
+struct Slot {
+    time: u64,
+    is_whole: bool,
+}
+
+// The time at which two runs show other lines; and whether each of them has a slot then.
+#[derive(Clone, Copy)]
+struct TimeApart {
+    time: u64,
+    run: bool,
+    parent: bool,
+}
+
 // One step fewer, if one is left.
 fn take_one(left: &mut u64) -> bool {
     match left.checked_sub(1) {
@@ -79,14 +94,29 @@ impl<'a> Walk<'a> {
         Ok(true)
     }
 
-    // Goes on to the end of the next slot, and tells its time; none where the run ends, or no step is left.
-    fn next_slot(&mut self, left: &mut u64) -> Result<Option<u64>, NoMemory> {
+    // The slot in which the run ends here, if it does.
+    fn last_slot(&self) -> Option<Slot> {
+        let end = self.machine.end_of(&self.state)?;
+        Some(Slot {
+            time: end.time,
+            is_whole: false,
+        })
+    }
+
+    // Goes on to the end of the next slot, or of the run in it; none where the run has ended, or no step is left.
+    fn next_slot(&mut self, left: &mut u64) -> Result<Option<Slot>, NoMemory> {
+        if !self.go_on(0, left)? {
+            return Ok(None);
+        }
         for _ in 0..u32::MAX {
-            if !self.go_on(0, left)? {
-                return Ok(None);
-            }
             if let Some(time) = self.machine.slot_of(&self.state) {
-                return Ok(Some(time));
+                return Ok(Some(Slot {
+                    time,
+                    is_whole: true,
+                }));
+            }
+            if !self.go_on(0, left)? {
+                return Ok(self.last_slot());
             }
         }
         Ok(None)
@@ -132,28 +162,53 @@ fn is_same_state(one: &Walk<'_>, other: &Walk<'_>) -> bool {
     one.state == other.state
 }
 
-// The first time from this one on at which both end a slot that printed other lines.
+// Whether the slot printed a line.
+fn has_printed(walk: &Walk<'_>) -> bool {
+    match walk.printed() {
+        None => false,
+        Some(lines) => !lines.as_slice().is_empty(),
+    }
+}
+
+// Whether the runs, which stand in these slots, show other lines at the earlier of their times: a run whose slot is later prints nothing
+// then.
+fn is_apart(run: &Walk<'_>, one: Slot, parent: &Walk<'_>, other: Slot) -> bool {
+    if one.time < other.time {
+        return one.is_whole && has_printed(run);
+    }
+    if other.time < one.time {
+        return other.is_whole && has_printed(parent);
+    }
+    one.is_whole && other.is_whole && !is_same_print(run, parent)
+}
+
+// The first time from this one on at which both show other lines.
 fn time_apart(
     run: &mut Walk<'_>,
     parent: &mut Walk<'_>,
     from: u64,
     left: &mut u64,
-) -> Result<Option<u64>, NoMemory> {
+) -> Result<Option<TimeApart>, NoMemory> {
     let (mut here, mut there) = (run.next_slot(left)?, parent.next_slot(left)?);
     for _ in 0..u32::MAX {
         let (Some(one), Some(other)) = (here, there) else {
             return Ok(None);
         };
-        if one == other && one >= from && !is_same_print(run, parent) {
-            return Ok(Some(one));
+        let time = one.time.min(other.time);
+        if time >= from && is_apart(run, one, parent, other) {
+            return Ok(Some(TimeApart {
+                time,
+                run: one.time == time,
+                parent: other.time == time,
+            }));
         }
-        if one == other && is_same_state(run, parent) {
+        if one.time == other.time && is_same_state(run, parent) {
             return Ok(None);
         }
-        if one <= other {
+        if one.time == time {
             here = run.next_slot(left)?;
         }
-        if other <= one {
+        if other.time == time {
             there = parent.next_slot(left)?;
         }
     }
@@ -198,36 +253,47 @@ fn log_of(alloc: Global, members: &[Member]) -> Result<Log, NoMemory> {
     Ok(log)
 }
 
-// Puts the side of a run that has ended a slot.
+// What the run has printed in its slot, if it has one; else nothing.
+fn printed_in(alloc: Global, lines: &Bag, has_slot: bool) -> Result<Bag, NoMemory> {
+    if has_slot {
+        lines.copy(alloc)
+    } else {
+        Ok(Bag::new(alloc))
+    }
+}
+
+// Puts the side of a run, which has a slot then or has none.
 fn put_side(
     alloc: Global,
     sides: &mut Vec<Side>,
     log: Log,
     walk: &Walk<'_>,
+    has_slot: bool,
 ) -> Result<(), NoMemory> {
     let Some(lines) = walk.printed() else {
         return Ok(());
     };
     sides.push(Side {
         log,
-        evidence: Evidence::Lines(lines.copy(alloc)?),
+        evidence: Evidence::Lines(printed_in(alloc, lines, has_slot)?),
     })?;
     Ok(())
 }
 
-// The difference of the two runs that have ended a slot at this time, that of the parent first.
+// The difference of the two runs in what they print, that of the parent first.
 fn lines_apart(
     alloc: Global,
     log: &Log,
     run: &Walk<'_>,
     parent: &Walk<'_>,
-    time: u64,
+    at: TimeApart,
 ) -> Result<Difference, NoMemory> {
+    let front = log_of(alloc, front_of(log))?;
     let mut sides = Vec::new(alloc);
-    put_side(alloc, &mut sides, log_of(alloc, front_of(log))?, parent)?;
-    put_side(alloc, &mut sides, log.copy()?, run)?;
+    put_side(alloc, &mut sides, front, parent, at.parent)?;
+    put_side(alloc, &mut sides, log.copy()?, run, at.run)?;
     Ok(Difference {
-        time,
+        time: at.time,
         aspect: Aspect::Lines,
         sides,
     })
@@ -279,8 +345,8 @@ fn apart_from_here(
     asked: Asked,
     left: &mut u64,
 ) -> Result<Option<Difference>, NoMemory> {
-    if let Some(time) = time_apart(run, parent, asked.from, left)? {
-        return Ok(Some(lines_apart(alloc, log, run, parent, time)?));
+    if let Some(at) = time_apart(run, parent, asked.from, left)? {
+        return Ok(Some(lines_apart(alloc, log, run, parent, at)?));
     }
     if !asked.ends || is_same_state(run, parent) {
         return Ok(None);
@@ -290,7 +356,7 @@ fn apart_from_here(
     ends_apart(alloc, log, run, parent)
 }
 
-/// The first lines, from the time on that is asked for, in which the run under the log and its parent differ, where both end a slot; or, where
+/// The first lines, from the time on that is asked for, in which the run under the log and its parent differ; or, where
 /// that is asked for, how they end, where they end at other times or by other causes, or print other lines in a slot that is cut. None where
 /// there is no such thing, or where the steps that are left don't lead so far.
 pub fn verdicts_apart(

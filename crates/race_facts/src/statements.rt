@@ -2,7 +2,7 @@
 
 use basis::NoMemory;
 use cause::{Blamed, Cause};
-use footprints::{Actor, Thing};
+use footprints::{Actor, Awaited, Thing};
 use race_findings::{RacingStatement, Statements, Touched};
 use std::alloc::Global;
 
@@ -25,29 +25,54 @@ fn racing_of(blamed: &Blamed) -> RacingStatement {
     }
 }
 
-// A thing, as it is told.
-fn touched_of(thing: Thing) -> Touched {
+// A thing, as it is told: a variable or an event by which both touch, which the end of the run is not.
+fn touched_of(thing: Thing) -> Option<Touched> {
     match thing {
-        Thing::Variable(number) => Touched::Variable(number as usize),
-        Thing::Event(_) => Touched::Event,
+        Thing::Variable(number) => Some(Touched::Variable(number as usize)),
+        Thing::Wait {
+            of: Awaited::Variable(number),
+            ..
+        } => Some(Touched::Variable(number as usize)),
+        Thing::Wait {
+            of: Awaited::Event(_),
+            ..
+        } => Some(Touched::Event),
+        Thing::End => None,
     }
 }
 
-// Whether the thing stands among the first so many.
-fn is_among_first(things: &[Thing], count: usize, thing: &Thing) -> bool {
-    match things.get(..count) {
-        None => false,
-        Some(front) => front.contains(thing),
+fn is_same(one: Touched, other: Touched) -> bool {
+    match (one, other) {
+        (Touched::Variable(number), Touched::Variable(same)) => number == same,
+        (Touched::Event, Touched::Event) => true,
+        _ => false,
     }
+}
+
+fn is_among(told: Touched, touched: &[Touched]) -> bool {
+    for one in touched {
+        if is_same(told, *one) {
+            return true;
+        }
+    }
+    false
+}
+
+// What one more thing is told as, unless it was told.
+fn put_touched(touched: &mut Vec<Touched>, thing: Thing) -> Result<(), NoMemory> {
+    if let Some(told) = touched_of(thing) {
+        if !is_among(told, touched) {
+            touched.push(told)?;
+        }
+    }
+    Ok(())
 }
 
 // The things, each once.
 fn all_touched(alloc: Global, things: &[Thing]) -> Result<Vec<Touched>, NoMemory> {
     let mut touched = Vec::new(alloc);
-    for (place, thing) in things.iter().enumerate() {
-        if !is_among_first(things, place, thing) {
-            touched.push(touched_of(*thing))?;
-        }
+    for thing in things {
+        put_touched(&mut touched, *thing)?;
     }
     Ok(touched)
 }

@@ -18,7 +18,6 @@ use Rattle.basis.specs.declared.memory.NoMemory.{NoMemory}
 use Rattle.sched_core.specs.Replay.{EndsAfter}
 use Rattle.sched_core.specs.Rules.{IsRun, stands}
 use Rattle.statebook.specs.declared.limits.Limits.{Limits}
-use Rattle.explore.specs.Found.{AreFound, IsListedMark}
 use Rattle.explore.specs.Ranked.{Closing, HandsOn, HandsOnAllTo, OfEach, WasHandedOn, pairs_of}
 use Rattle.explore.specs.declared.rank_marks.FoundMark.{FoundMark}
 use Rattle.explore.specs.declared.ranked_findings.RankedFindings.{RankedFindings}
@@ -30,14 +29,12 @@ use Rattle.vmodel.specs.RulesLaws.{lawful}
 use Rattle.vmodel.specs.RunProgress.{width_is}
 use Rattle.vmachine.specs.declared.machine_state.MachineState.{MachineState}
 use Rattle.vmachine.specs.Machines.{Stands, machine_rules, rank_of}
-use Rattle.racebook.specs.Races.{IsRace, Race, TwoRunsDiffer}
-use Rattle.racebook.specs.LineRaces.{IsLineRace, LineRace, TwoRunsPrint}
+use Rattle.racebook.specs.Races.{Race}
+use Rattle.racebook.specs.LineRaces.{LineRace}
 use Rattle.racebook.specs.InTime.{EachEnd, IsClosed, IsEndOfRun}
 use Rattle.racebook.specs.Inner.{AreEndsOf, AreInTurn, AreSlotStates}
 use Rattle.racebook.specs.declared.slot_state.SlotState.{SlotState}
-use Rattle.racebook.proofs.ClosedLemmas.{slot_time}
-use Rattle.racebook.proofs.FoundLemmas.{Alike, AllStand, AreEndsListed, HasVariables, MarkAlike, RunHere, RunThere, end_marked, lines_at}
-use Rattle.racebook.proofs.FoundLemmas.{lines_found, races_at, races_found}
+use Rattle.racebook.proofs.FoundLemmas.{Alike, AllStand, HasVariables, MarkAlike, RunHere, RunThere, end_marked}
 use Rattle.racebook.proofs.InTimeLemmas.{RankIsTime, ended_here, told_where_ended}
 use Rattle.racebook.proofs.ListLemmas.{contains_at}
 use Rattle.race_groups.specs.declared.collected.RaceGroups.{RaceGroups}
@@ -53,7 +50,13 @@ use Rattle.race_groups.specs.Found.{name_of, verdict_by}
 use Rattle.race_groups.specs.Inner.{AreCutsOf, AreCutsTold, AreGroupsOf, AreTold, CollectsGroups, IsEndOfSome, IsGroupOfEnds, IsLastSeen}
 use Rattle.race_groups.specs.Inner.{IsShownBy, KeepsGroups, TellsEnds, GroupHead, Tracing, compared_end, cut_values_in, group_head}
 use Rattle.race_groups.specs.Inner.{group_heads, is_in_cut, traced_by, verdict_in}
+use Rattle.race_groups.specs.declared.standing.Standing.{Standing}
+use Rattle.race_groups.specs.Shown.{IsLineRaceAt, IsRaceAt, SomeSlotEnds, TwoRunsDifferAt, TwoRunsPrintAt}
+use Rattle.race_groups.specs.Standing.{AreStatesShown}
 use Rattle.race_groups.proofs.KeptLemmas.{told_all, told_each}
+use Rattle.race_groups.proofs.StandingLemmas.{WidthAlike}
+use Rattle.race_groups.proofs.ShownLemmas.{AfterAlike, IsIn, OneWay, differ_listed, line_race_shown, print_listed, race_shown}
+use Rattle.race_groups.proofs.ShownLemmas.{time_of_state}
 use Rattle.race_groups.proofs.ListLemmas.{at_most_one, no_image, nothing_in, to_map}
 
 abbrev Pair : Type 0
@@ -96,18 +99,25 @@ value_name race = record { time = race.time; variable = Some race.variable }
 abbrev lines_name : LineRace → Name
 lines_name race = record { time = race.time; variable = None }
 
--- a mark of a run stands in a closing of its time
-record IsIn (setting : Setting) (closings : List (Closing MachineState)) (log : List (ℕ × ℕ)) (steps : ℕ) : Type 0 where
-  place : ℕ
-  closing : Closing MachineState
-  at : slice_get closings place ≡ Some closing
-  listed : IsListedMark (machine_rules setting) closing.marks (stands (machine_rules setting) log steps) (length log)
-  stands_so : Stands setting listed.found.0 (state_after setting log steps)
-  rank_is : closing.rank ≡ (state_after setting log steps).queue.time
+-- where something is seen there is a mark
+marks_of_own : (setting : Setting) (c : Closing MachineState) (own : List SlotState) → AreSlotStates setting c.marks own → own ≢ [] →
+    0 < length c.marks
+marks_of_own setting c own are some =
+    let first = first_of own some in
+    let o = are.each first.0 (contains_at own 0 first.0 first.1) in
+    let w = place_within c.marks o.place o.found o.at in
+    omega (arith, w)
+
+marks_seen : (setting : Setting) (c : Closing MachineState) (standing : List Standing) (gs : List SlotState) →
+    AreStatesShown setting c.rank c.marks standing gs → (g : SlotState) → Contains gs g → 0 < length c.marks
+marks_seen setting c standing gs are g has = elim are.whole [
+  | inl (none, empty) ↦ nothing_in g (subst (λ (l : List SlotState). Contains l g) empty has)
+  | inr (some, adds) ↦ marks_of_own setting c are.own are.are some
+]
 
 module _ (setting : Setting) (alike : Alike setting) (all : AllStand setting) (there : RunThere setting) (here : RunHere setting)
-    (mark_alike : MarkAlike setting) (wide : HasVariables setting) (ranked : RankIsTime setting)
-    (limits : Limits) (scope : Scope) (groups : List Group) (heads : List GroupHead) (ends : List (FoundMark MachineState)) (cut : Bool)
+    (mark_alike : MarkAlike setting) (wide : HasVariables setting) (ranked : RankIsTime setting) (widths : WidthAlike setting)
+    (after : AfterAlike setting) (one_way : OneWay setting) (limits : Limits) (scope : Scope) (groups : List Group) (heads : List GroupHead) (ends : List (FoundMark MachineState)) (cut : Bool)
     (seen : Option ℕ) (refused : Option NoMemory) (findings : RankedFindings)
     (hands : HandsOn (machine_rules setting) limits (rank_of setting)
     (AreGroupsOf (tracing_in setting limits) scope groups heads (pairs_of ends) cut seen refused) findings) where
@@ -181,50 +191,47 @@ module _ (setting : Setting) (alike : Alike setting) (all : AllStand setting) (t
 
   -- ---- what was found is true
 
-  shown_is : (marks : List Pair) → AreFound (machine_rules setting) limits marks → (d : Difference) → IsShownBy setting marks d →
-      IsDifference setting limits d
-  shown_is marks found (Values race) (races, are, has) =
-      let p = at_contains races race has in
-      races_found setting limits marks are.slot_states races alike all there found are.are are.all p.0 race p.1
-  shown_is marks found (Lines race) (races, are, has) =
-      let p = at_contains races race has in
-      lines_found setting limits marks are.slot_states races alike all there found are.are are.all p.0 race p.1
-  shown_is marks found (Ends list) none = absurd none
+  shown_is : (i : ℕ) (c : Closing MachineState) → slice_get hands.closings i ≡ Some c → (d : Difference) →
+      IsShownBy setting hands.closings i c d → IsDifference setting limits d
+  shown_is i c at (Values race) shown = race_shown setting alike all there mark_alike wide ranked widths after one_way limits hands.closings
+      hands.found hands.ranks hands.rise i c at race shown
+  shown_is i c at (Lines race) shown = line_race_shown setting alike all there mark_alike wide ranked widths after one_way limits
+      hands.closings hands.found hands.ranks hands.rise i c at race shown
+  shown_is i c at (Ends list) none = absurd none
 
   pub told_first : (t : GroupHead) → Contains heads t → IsDifference setting limits t.first
-  told_first t has = let o = hands.collected.firsts t has in shown_is o.closing.marks (hands.found o.place o.closing o.at) t.first o.shown
+  told_first t has = let o = hands.collected.firsts t has in shown_is o.place o.closing o.at t.first o.shown
 
-  -- the time of what is seen of its marks was closed
-  closed_here : (i : ℕ) (c : Closing MachineState) → slice_get hands.closings i ≡ Some c → from ≤ c.rank → (gs : List SlotState) →
-      AreSlotStates setting c.marks gs → (g : SlotState) → Contains gs g → IsClosedFrom from seen g.time
-  closed_here i c at late gs are g has =
-      let o = are.each g has in
-      let f = hands.found i c at o.place o.found o.at in
-      let t = state_of o.found.1 f.steps in
-      let st : Stands setting o.found.0 t = alike (stands (machine_rules setting) o.found.1 f.steps) o.found.0 t
-      (all o.found.1 f.steps) f.at in
-      let is = slot_time setting o.found g c.rank o.of (t, st, sym (ranked o.found.0 t st) ∙ hands.ranks i c at o.place o.found o.at) in
-      let w = place_within c.marks o.place o.found o.at in
-      let l = marked_closed i c at (omega (arith, w)) in
+  -- the time of what is seen was closed
+  closed_here : (i : ℕ) (c : Closing MachineState) → slice_get hands.closings i ≡ Some c → from ≤ c.rank → (standing : List Standing)
+      (gs : List SlotState) → AreStatesShown setting c.rank c.marks standing gs → (g : SlotState) → Contains gs g →
+      IsClosedFrom from seen g.time
+  closed_here i c at late standing gs are g has =
+      let is = time_of_state setting alike all there mark_alike wide ranked widths after one_way limits hands.closings
+      hands.found hands.ranks hands.rise i c at standing gs are g has in
+      let some = marks_seen setting c standing gs are g has in
+      let l = marked_closed i c at some in
       let le = l.2 in
       (omega (arith, late, is), (l.0, l.1, omega (arith, is, le)))
 
   shown_closed : (i : ℕ) (c : Closing MachineState) → slice_get hands.closings i ≡ Some c → from ≤ c.rank → (d : Difference) →
-      IsShownBy setting c.marks d → IsInTime setting from seen d
-  shown_closed i c at late (Values race) (races, are, has) =
-      let p = at_contains races race has in
-      let r = are.all.each p.0 race p.1 in
+      IsShownBy setting hands.closings i c d → IsInTime setting from seen d
+  shown_closed i c at late (Values race) shown =
+      let p = at_contains shown.races race shown.has in
+      let r = shown.are.all.each p.0 race p.1 in
       let two = r.two in
       let s = listed_place race.values 0 (omega (arith, two)) in
       let visible = r.seen 0 s.0 s.1 in
-      subst (IsClosedFrom from seen) visible.time_is (closed_here i c at late are.slot_states are.are visible.slot_state visible.among)
-  shown_closed i c at late (Lines race) (races, are, has) =
-      let p = at_contains races race has in
-      let r = are.all.each p.0 race p.1 in
+      subst (IsClosedFrom from seen) visible.time_is
+      (closed_here i c at late shown.standing shown.are.slot_states shown.are.are visible.slot_state visible.among)
+  shown_closed i c at late (Lines race) shown =
+      let p = at_contains shown.races race shown.has in
+      let r = shown.are.all.each p.0 race p.1 in
       let two = r.two in
       let s = listed_place race.sides 0 (omega (arith, two)) in
       let visible = r.seen 0 s.0 s.1 in
-      subst (IsClosedFrom from seen) visible.time_is (closed_here i c at late are.slot_states are.are visible.slot_state visible.among)
+      subst (IsClosedFrom from seen) visible.time_is
+      (closed_here i c at late shown.standing shown.are.slot_states shown.are.are visible.slot_state visible.among)
   shown_closed i c at late (Ends list) none = absurd none
 
   pub told_in_time : (t : GroupHead) → Contains heads t → IsInTime setting from seen t.first
@@ -248,7 +255,7 @@ module _ (setting : Setting) (alike : Alike setting) (all : AllStand setting) (t
       (subst (λ (l : List (FoundMark MachineState)). Contains (pairs_of l) end) tells (contains_at (pairs_of list.items) i end at)) t st
 
   -- what is told of a difference, of its name
-  race_differs : (race : Race) → IsRace setting limits race → TwoRunsDiffer setting limits.depart race.time race.variable
+  race_differs : (race : Race) → IsRaceAt setting limits race → TwoRunsDifferAt setting limits.depart race.time race.variable
   race_differs race is =
       let two = is.two in
       let s = listed_place race.values 0 (omega (arith, two)) in
@@ -258,12 +265,29 @@ module _ (setting : Setting) (alike : Alike setting) (all : AllStand setting) (t
       record {
         one = s.0.0;
         other = t.0.0;
-        shows_one = record { log = s.0.1; steps = one.steps; shown = one.shown; short = one.short };
-        shows_other = record { log = t.0.1; steps = other.steps; shown = other.shown; short = other.short };
+        shows_one = record {
+          log = s.0.1;
+          steps = one.shown.steps;
+          values = one.values;
+          lines = one.lines;
+          shown = one.shown.shown;
+          value_is = one.value_is;
+          short = one.shown.short;
+        };
+        shows_other = record {
+          log = t.0.1;
+          steps = other.shown.steps;
+          values = other.values;
+          lines = other.lines;
+          shown = other.shown.shown;
+          value_is = other.value_is;
+          short = other.shown.short;
+        };
         differ = is.differ 0 1 s.0 t.0 (omega arith) s.1 t.1;
+        slot = is.slot;
       }
 
-  lines_differ : (race : LineRace) → IsLineRace setting limits race → TwoRunsPrint setting limits.depart race.time
+  lines_differ : (race : LineRace) → IsLineRaceAt setting limits race → TwoRunsPrintAt setting limits.depart race.time
   lines_differ race is =
       let two = is.two in
       let s = listed_place race.sides 0 (omega (arith, two)) in
@@ -274,8 +298,21 @@ module _ (setting : Setting) (alike : Alike setting) (all : AllStand setting) (t
       record {
         one = s.0.0;
         other = t.0.0;
-        prints_one = record { log = s.0.1; steps = one.steps; shown = one.shown; short = one.short };
-        prints_other = record { log = t.0.1; steps = other.steps; shown = other.shown; short = other.short };
+        prints_one = record {
+          log = s.0.1;
+          steps = one.shown.steps;
+          values = one.values;
+          shown = one.shown.shown;
+          short = one.shown.short;
+        };
+        prints_other = record {
+          log = t.0.1;
+          steps = other.shown.steps;
+          values = other.values;
+          shown = other.shown.shown;
+          short = other.shown.short;
+        };
+        slot = is.slot;
         differ = λ same.
             (let tied : bag_cmp s.0.0 t.0.0 ≡ Equal = ap (λ (x : List (List ℕ)). bag_cmp x t.0.0) same ∙ tied_itself bags_total t.0.0 in
             let bad : Less ≡ Equal = sym less ∙ tied in
@@ -315,8 +352,7 @@ module _ (setting : Setting) (alike : Alike setting) (all : AllStand setting) (t
         (let has = contains_at (hands.collected.all.rests i) k name is.named in
         let by = hands.collected.all.only sound name (i, record { group = is.group; at = is.at; has = inr has }) in (
           whole name.time (name_closed by.difference name (shown_closed by.place by.closing by.at by.late by.difference by.shown) by.is),
-          name_differs by.difference name
-              (shown_is by.closing.marks (hands.found by.place by.closing by.at) by.difference by.shown) by.is,
+          name_differs by.difference name (shown_is by.place by.closing by.at by.difference by.shown) by.is,
         ));
     named_once = hands.collected.all.once sound in_turn;
   }
@@ -436,7 +472,7 @@ module _ (setting : Setting) (alike : Alike setting) (all : AllStand setting) (t
   module _ (Within : ℕ → Type 0)
       (handed : (log : List (ℕ × ℕ)) (steps : ℕ) → length log ≤ limits.depart → IsRun (rules_of setting) log steps →
       (machine_rules setting).mark (stands (machine_rules setting) log steps) ≡ true →
-      Within (state_after setting log steps).queue.time → WasHandedOn (machine_rules setting) hands.closings
+      (time : ℕ) → Within time → (state_after setting log steps).queue.time ≤ time → WasHandedOn (machine_rules setting) hands.closings
       (stands (machine_rules setting) log steps) (length log)) where
     is_in : (log : List (ℕ × ℕ)) (steps : ℕ) → WasHandedOn (machine_rules setting) hands.closings (stands (machine_rules setting) log steps)
         (length log) → IsIn setting hands.closings log steps
@@ -452,27 +488,11 @@ module _ (setting : Setting) (alike : Alike setting) (all : AllStand setting) (t
           rank_is = sym (hands.ranks i c at l.place l.found l.at) ∙ ranked l.found.0 t st;
         }
 
-    -- each rank was closed once
-    one_closing : (i j : ℕ) (c d : Closing MachineState) → slice_get hands.closings i ≡ Some c → slice_get hands.closings j ≡ Some d →
-        c.rank ≡ d.rank → d ≡ c
-    one_closing i j c d at at' same = elim (cases_lt i j) [
-      | inl before ↦ absurd (let lt = hands.rise i j c d before at at' in omega arith)
-      | inr from_there ↦ elim (cases_lt j i) [
-        | inl behind ↦ absurd (let lt = hands.rise j i d c behind at' at in omega arith)
-        | inr both ↦ (let e : j ≡ i = omega arith in same_Some d c (sym at' ∙ ap (slice_get hands.closings) e ∙ at))
-      ]
-    ]
-
-    -- the slot ends of a time stand in one closing
-    listed_in : (i : ℕ) (c : Closing MachineState) → slice_get hands.closings i ≡ Some c → (time : ℕ) → Within time → c.rank ≡ time →
-        AreEndsListed setting limits.depart c.marks time
-    listed_in i c at time within rank = λ values log steps short run is.
-        let time_is : time ≡ (state_after setting log steps).queue.time = sym is.time_is in
-        let h = is_in log steps (handed log steps short run (end_marked setting all mark_alike time values log steps is)
-        (subst Within time_is within)) in
-        let same = one_closing i h.place c h.closing at h.at (rank ∙ time_is ∙ sym h.rank_is) in
-        subst (λ (d : Closing MachineState). IsListedMark (machine_rules setting) d.marks (stands (machine_rules setting) log steps)
-        (length log)) same h.listed
+    -- up to one of these times
+    in_one : (time : ℕ) → Within time → (log : List (ℕ × ℕ)) (steps : ℕ) → length log ≤ limits.depart → IsRun (rules_of setting) log steps →
+        (machine_rules setting).mark (stands (machine_rules setting) log steps) ≡ true → (state_after setting log steps).queue.time ≤ time →
+        IsIn setting hands.closings log steps
+    in_one time within log steps short run mark le = is_in log steps (handed log steps short run mark time within le)
 
     -- ---- ends
 
@@ -484,7 +504,8 @@ module _ (setting : Setting) (alike : Alike setting) (all : AllStand setting) (t
 
     end_in_one : (log : List (ℕ × ℕ)) (steps : ℕ) → length log ≤ limits.depart → EndsAfter (rules_of setting) log steps →
         Within (state_after setting log steps).queue.time → IsIn setting hands.closings log steps
-    end_in_one log steps short after within = is_in log steps (handed log steps short after.run (end_mark log steps after) within)
+    end_in_one log steps short after within = in_one (state_after setting log steps).queue.time within log steps short after.run
+        (end_mark log steps after) (omega arith)
 
     -- it is one of the ends of its closing
     among_ends : (log : List (ℕ × ℕ)) (steps : ℕ) → EndsAfter (rules_of setting) log steps → (h : IsIn setting hands.closings log steps) →
@@ -511,40 +532,42 @@ module _ (setting : Setting) (alike : Alike setting) (all : AllStand setting) (t
         let h = end_in_one log steps short after within in
         nothing_in h.listed.found (among_ends log steps after h [] (unended h.place h.closing h.at))
 
+    -- the closing of a time at which a slot ends
+    slot_in_one : (time : ℕ) → Within time → (ends : SomeSlotEnds setting limits.depart time) → IsIn setting hands.closings ends.log ends.steps
+    slot_in_one time within ends =
+        let e = ends.slot.time_is in
+        in_one time within ends.log ends.steps ends.short ends.run
+        (end_marked setting all mark_alike time ends.values ends.log ends.steps ends.slot) (omega (arith, e))
+
     module _ (after_from : (time : ℕ) → Within time → from ≤ time) where
-      all_values : (time variable : ℕ) → Within time → TwoRunsDiffer setting limits.depart time variable →
+      all_values : (time variable : ℕ) → Within time → TwoRunsDifferAt setting limits.depart time variable →
           IsNameInOne groups hands.collected.all.rests (record { time = time; variable = Some variable })
       all_values time variable within differ =
-          let log = differ.shows_one.log in
-          let steps = differ.shows_one.steps in
-          let shown = differ.shows_one.shown in
-          let time_is : time ≡ (state_after setting log steps).queue.time = sym shown.slot.time_is in
-          let h = is_in log steps (handed log steps differ.shows_one.short shown.run
-          (end_marked setting all mark_alike time shown.values log steps shown.slot) (subst Within time_is within)) in
-          let late : from ≤ h.closing.rank = subst (λ (n : ℕ). from ≤ n) (time_is ∙ sym h.rank_is) (after_from time within) in
+          let h = slot_in_one time within differ.slot in
+          let rank_is = h.rank_is ∙ differ.slot.slot.time_is in
+          let late : from ≤ h.closing.rank = subst (λ (n : ℕ). from ≤ n) (sym rank_is) (after_from time within) in
           let shows = hands.collected.all.shown h.place h.closing h.at late in
-          let l = races_at setting limits.depart h.closing.marks shows.values.slot_states shows.races alike all wide time
-          (listed_in h.place h.closing h.at time within (h.rank_is ∙ sym time_is)) shows.values.are shows.values.all variable differ.one
-          differ differ.shows_one in
-          subst (λ (t : ℕ). IsNameInOne groups hands.collected.all.rests (record { time = t; variable = Some variable })) l.time_is
+          let l = differ_listed setting alike all there mark_alike wide ranked widths after one_way limits hands.closings
+          hands.found hands.ranks hands.rise h.place h.closing h.at shows.standing shows.stand shows.values.slot_states shows.values.are
+          (λ log steps short run mark le. in_one h.closing.rank (subst Within (sym rank_is) within) log steps short run mark le)
+          shows.races shows.values.all variable (subst (λ (n : ℕ). TwoRunsDifferAt setting limits.depart n variable) (sym rank_is) differ) in
+          subst (λ (t : ℕ). IsNameInOne groups hands.collected.all.rests (record { time = t; variable = Some variable }))
+          (l.time_is ∙ rank_is)
           (subst (λ (v : ℕ). IsNameInOne groups hands.collected.all.rests (record { time = l.race.time; variable = Some v })) l.variable_is
           (shows.each l.race (contains_at shows.races l.place l.race l.at)))
 
-      all_lines : (time : ℕ) → Within time → TwoRunsPrint setting limits.depart time → IsNameInOne groups hands.collected.all.rests
+      all_lines : (time : ℕ) → Within time → TwoRunsPrintAt setting limits.depart time → IsNameInOne groups hands.collected.all.rests
           (record { time = time; variable = None })
       all_lines time within differ =
-          let log = differ.prints_one.log in
-          let steps = differ.prints_one.steps in
-          let shown = differ.prints_one.shown in
-          let time_is : time ≡ (state_after setting log steps).queue.time = sym shown.slot.time_is in
-          let h = is_in log steps (handed log steps differ.prints_one.short shown.run
-          (end_marked setting all mark_alike time shown.values log steps shown.slot) (subst Within time_is within)) in
-          let late : from ≤ h.closing.rank = subst (λ (n : ℕ). from ≤ n) (time_is ∙ sym h.rank_is) (after_from time within) in
+          let h = slot_in_one time within differ.slot in
+          let rank_is = h.rank_is ∙ differ.slot.slot.time_is in
+          let late : from ≤ h.closing.rank = subst (λ (n : ℕ). from ≤ n) (sym rank_is) (after_from time within) in
           let shows = hands.collected.all.shown h.place h.closing h.at late in
-          let l = lines_at setting limits.depart h.closing.marks shows.lines.slot_states shows.line_races alike all wide time
-          (listed_in h.place h.closing h.at time within (h.rank_is ∙ sym time_is)) shows.lines.are shows.lines.all differ.one
-          differ differ.prints_one in
-          subst (λ (t : ℕ). IsNameInOne groups hands.collected.all.rests (record { time = t; variable = None })) l.time_is
+          let l = print_listed setting alike all there mark_alike wide ranked widths after one_way limits hands.closings
+          hands.found hands.ranks hands.rise h.place h.closing h.at shows.standing shows.stand shows.lines.slot_states shows.lines.are
+          (λ log steps short run mark le. in_one h.closing.rank (subst Within (sym rank_is) within) log steps short run mark le)
+          shows.line_races shows.lines.all (subst (TwoRunsPrintAt setting limits.depart) (sym rank_is) differ) in
+          subst (λ (t : ℕ). IsNameInOne groups hands.collected.all.rests (record { time = t; variable = None })) (l.time_is ∙ rank_is)
           (shows.each_line l.race (contains_at shows.line_races l.place l.race l.at))
 
       pub all_counted : ((time : ℕ) → IsClosedFrom from seen time → Within time) →
@@ -633,11 +656,11 @@ module _ (setting : Setting) (alike : Alike setting) (all : AllStand setting) (t
 
   handed_to : (top : ℕ) → AllTo top → (log : List (ℕ × ℕ)) (steps : ℕ) → length log ≤ limits.depart → IsRun (rules_of setting) log steps →
       (machine_rules setting).mark (stands (machine_rules setting) log steps) ≡ true →
-      (state_after setting log steps).queue.time ≤ top → WasHandedOn (machine_rules setting) hands.closings
+      (time : ℕ) → time ≤ top → (state_after setting log steps).queue.time ≤ time → WasHandedOn (machine_rules setting) hands.closings
       (stands (machine_rules setting) log steps) (length log)
-  handed_to top covered log steps short run mark le =
+  handed_to top covered log steps short run mark time below le =
       let at = ranked (stands (machine_rules setting) log steps) (state_after setting log steps) (all log steps) in
-      covered log steps short (here log steps run) mark (omega arith)
+      covered log steps short (here log steps run) mark (omega (arith, at, below, le))
 
   abbrev To : ℕ → ℕ → Type 0
   To top time = (from ≤ time) × (time ≤ top)
@@ -645,55 +668,55 @@ module _ (setting : Setting) (alike : Alike setting) (all : AllStand setting) (t
   pub told_to : groups ≡ [] → length (pairs_of ends) ≤ 1 →
       IfSome seen (λ top. NoneDiffer setting limits.depart (λ time. (from ≤ time) × (time ≤ top)))
   told_to none few = IfSome_then seen covered_seen (λ top covered.
-      none_differ (To top) (λ log steps short run mark within. handed_to top covered log steps short run mark within.1)
+      none_differ (To top) (λ log steps short run mark time within le. handed_to top covered log steps short run mark time within.1 le)
       (λ time within. within.0) none few)
 
   pub told_throughout : groups ≡ [] → length (pairs_of ends) ≤ 1 → findings.status ≡ Exhausted →
       NoneDiffer setting limits.depart (λ time. from ≤ time)
   told_throughout none few e =
-      none_differ (λ time. from ≤ time) (λ log steps short run mark within. hands.exhausted e log steps short (here log steps run) mark)
+      none_differ (λ time. from ≤ time) (λ log steps short run mark time within le. hands.exhausted e log steps short (here log steps run) mark)
       (λ time within. within) none few
 
   pub ends_to : length (pairs_of ends) ≤ 1 → IfSome seen (λ top. AllEndsAgree setting limits.depart (To top))
   ends_to few = IfSome_then seen covered_seen (λ top covered.
-      all_ends (To top) (λ log steps short run mark within. handed_to top covered log steps short run mark within.1)
+      all_ends (To top) (λ log steps short run mark time within le. handed_to top covered log steps short run mark time within.1 le)
       (λ time within. within.0) few)
 
   pub ends_throughout : length (pairs_of ends) ≤ 1 → findings.status ≡ Exhausted → AllEndsAgree setting limits.depart (λ time. from ≤ time)
   ends_throughout few e =
-      all_ends (λ time. from ≤ time) (λ log steps short run mark within. hands.exhausted e log steps short (here log steps run) mark)
+      all_ends (λ time. from ≤ time) (λ log steps short run mark time within le. hands.exhausted e log steps short (here log steps run) mark)
       (λ time within. within) few
 
   pub cut_values_to : length (pairs_of ends) ≤ 1 → (cut_ends : List (FoundMark MachineState)) → AreCuts cut_ends → cut_ends ≡ [] →
       IfSome seen (λ top. AllCutAlike setting limits.depart (To top))
   cut_values_to few cut_ends cuts none = IfSome_then seen covered_seen (λ top covered.
-      all_cut (To top) (λ log steps short run mark within. handed_to top covered log steps short run mark within.1)
+      all_cut (To top) (λ log steps short run mark time within le. handed_to top covered log steps short run mark time within.1 le)
       (λ time within. within.0) few cut_ends cuts none)
 
   pub cut_values_throughout : length (pairs_of ends) ≤ 1 → (cut_ends : List (FoundMark MachineState)) → AreCuts cut_ends → cut_ends ≡ [] →
       findings.status ≡ Exhausted → AllCutAlike setting limits.depart (λ time. from ≤ time)
   cut_values_throughout few cut_ends cuts none e =
-      all_cut (λ time. from ≤ time) (λ log steps short run mark within. hands.exhausted e log steps short (here log steps run) mark)
+      all_cut (λ time. from ≤ time) (λ log steps short run mark time within le. hands.exhausted e log steps short (here log steps run) mark)
       (λ time within. within) few cut_ends cuts none
 
   -- what was closed was handed on
   handed_closed : (log : List (ℕ × ℕ)) (steps : ℕ) → length log ≤ limits.depart → IsRun (rules_of setting) log steps →
       (machine_rules setting).mark (stands (machine_rules setting) log steps) ≡ true →
-      IsClosed seen (state_after setting log steps).queue.time →
+      (time : ℕ) → IsClosed seen time → (state_after setting log steps).queue.time ≤ time →
       WasHandedOn (machine_rules setting) hands.closings (stands (machine_rules setting) log steps) (length log)
-  handed_closed log steps short run mark (top, is, le) =
+  handed_closed log steps short run mark time (top, is, below) le =
       handed_to top
       (subst (λ (o : Option ℕ). IfSome o (HandsOnAllTo (machine_rules setting) limits (rank_of setting) hands.closings)) is covered_seen)
-      log steps short run mark le
+      log steps short run mark time below le
 
   pub all_to : AllAreCounted setting limits.depart scope.names groups refused (IsClosedFrom from seen)
   all_to = all_counted (IsClosedFrom from seen)
-      (λ log steps short run mark within. handed_closed log steps short run mark within.1) (λ time within. within.0)
+      (λ log steps short run mark time within le. handed_closed log steps short run mark time within.1 le) (λ time within. within.0)
       (λ time within. within)
 
   pub all_throughout : findings.status ≡ Exhausted → AllAreCounted setting limits.depart scope.names groups refused (λ time. from ≤ time)
   all_throughout e = all_counted (λ time. from ≤ time)
-      (λ log steps short run mark within. hands.exhausted e log steps short (here log steps run) mark) (λ time within. within)
+      (λ log steps short run mark time within le. hands.exhausted e log steps short (here log steps run) mark) (λ time within. within)
       (λ time within. within.0)
 
   -- the time at which a run ends is one that was closed, or one before
@@ -703,9 +726,9 @@ module _ (setting : Setting) (alike : Alike setting) (all : AllStand setting) (t
   ends_closed e log steps short after =
       let Any : ℕ → Type 0 = λ time. ⊤ in
       let given : (l : List (ℕ × ℕ)) (n : ℕ) → length l ≤ limits.depart → IsRun (rules_of setting) l n → (machine_rules setting).mark
-      (stands (machine_rules setting) l n) ≡ true →
-      Any (state_after setting l n).queue.time → WasHandedOn (machine_rules setting) hands.closings (stands (machine_rules setting) l n)
-      (length l) = λ l n less run mark within. hands.exhausted e l n less (here l n run) mark in
+      (stands (machine_rules setting) l n) ≡ true → (time : ℕ) → Any time →
+      (state_after setting l n).queue.time ≤ time → WasHandedOn (machine_rules setting) hands.closings (stands (machine_rules setting) l n)
+      (length l) = λ l n less run mark time within le. hands.exhausted e l n less (here l n run) mark in
       let h = end_in_one Any given log steps short after tt in
       let w = place_within h.closing.marks h.listed.place h.listed.found h.listed.at in
       let last = marked_closed h.place h.closing h.at (omega (arith, w)) in
@@ -714,22 +737,20 @@ module _ (setting : Setting) (alike : Alike setting) (all : AllStand setting) (t
       (last.0, last.1, omega (arith, rank_is, le))
 
   pub cuts_to : cut ≡ false → IfSome seen (λ top. NoneIsCut setting limits.depart (λ time. time ≤ top))
-  cuts_to none = IfSome_then seen covered_seen (λ top covered. none_cut (λ time. time ≤ top) (λ log steps short run mark within.
-      (let at = ranked (stands (machine_rules setting) log steps) (state_after setting log steps) (all log steps) in
-      covered log steps short (here log steps run) mark (omega arith))) none)
+  cuts_to none = IfSome_then seen covered_seen (λ top covered. none_cut (λ time. time ≤ top)
+      (λ log steps short run mark time within le. handed_to top covered log steps short run mark time within le) none)
 
   pub cuts_throughout : cut ≡ false → findings.status ≡ Exhausted → NoneIsCut setting limits.depart (λ time. ⊤)
-  cuts_throughout none e = none_cut (λ time. ⊤) (λ log steps short run mark within. hands.exhausted e log steps short
-      (here log steps run) mark) none
+  cuts_throughout none e = none_cut (λ time. ⊤)
+      (λ log steps short run mark time within le. hands.exhausted e log steps short (here log steps run) mark) none
 
   pub no_end_to : Unended → IfSome seen (λ top. NoneEnds setting limits.depart (λ time. time ≤ top))
-  no_end_to unended = IfSome_then seen covered_seen (λ top covered. none_ends (λ time. time ≤ top) (λ log steps short run mark within.
-      (let at = ranked (stands (machine_rules setting) log steps) (state_after setting log steps) (all log steps) in
-      covered log steps short (here log steps run) mark (omega arith))) unended)
+  no_end_to unended = IfSome_then seen covered_seen (λ top covered. none_ends (λ time. time ≤ top)
+      (λ log steps short run mark time within le. handed_to top covered log steps short run mark time within le) unended)
 
   pub no_end_throughout : Unended → findings.status ≡ Exhausted → NoneEnds setting limits.depart (λ time. ⊤)
-  no_end_throughout unended e = none_ends (λ time. ⊤) (λ log steps short run mark within. hands.exhausted e log steps short
-      (here log steps run) mark) unended
+  no_end_throughout unended e = none_ends (λ time. ⊤)
+      (λ log steps short run mark time within le. hands.exhausted e log steps short (here log steps run) mark) unended
 
 -- what was handed on has made this of what is kept
 pub kept_so : (setting : Setting) (limits : Limits) (scope : Scope) (first now : RaceGroups) (findings : RankedFindings) →
@@ -803,8 +824,8 @@ pub record IsTold (setting : Setting) (limits : Limits) (scope : Scope) (groups 
   pub cuts_exhausted : cut ≡ false → findings.status ≡ Exhausted → NoneIsCut setting limits.depart (λ time. ⊤)
 
 module _ (setting : Setting) (alike : Alike setting) (all : AllStand setting) (there : RunThere setting) (here : RunHere setting)
-    (mark_alike : MarkAlike setting) (wide : HasVariables setting) (ranked : RankIsTime setting)
-    (limits : Limits) (scope : Scope) (kept : RaceGroups) (findings : RankedFindings)
+    (mark_alike : MarkAlike setting) (wide : HasVariables setting) (ranked : RankIsTime setting) (widths : WidthAlike setting)
+    (after : AfterAlike setting) (one_way : OneWay setting) (limits : Limits) (scope : Scope) (kept : RaceGroups) (findings : RankedFindings)
     (groups : List Group) (tells : AreTold (tracing_in setting limits) kept groups)
     (hands : HandsOn (machine_rules setting) limits (rank_of setting) (AreGroupsOf (tracing_in setting limits) scope groups
     (group_heads kept.groups.items) (pairs_of kept.ends.items) kept.cut_runs kept.seen kept.refused) findings)
@@ -853,20 +874,20 @@ module _ (setting : Setting) (alike : Alike setting) (all : AllStand setting) (t
 
   its_first : EachGroup (HasFirstDifference setting limits) groups
   its_first i group at = elim (each group (contains_at groups i group at)) [
-    | inl old ↦ told_first setting alike all there here mark_alike wide ranked limits scope groups heads ends kept.cut_runs
+    | inl old ↦ told_first setting alike all there here mark_alike wide ranked widths after one_way limits scope groups heads ends kept.cut_runs
         kept.seen kept.refused findings hands (group_head group) (to_map group_head kept.groups.items group old)
     | inr new ↦
         let two = new.0 in
-        told_ends setting alike all there here mark_alike wide ranked limits scope groups heads ends kept.cut_runs kept.seen
+        told_ends setting alike all there here mark_alike wide ranked widths after one_way limits scope groups heads ends kept.cut_runs kept.seen
         kept.refused findings hands group.first new.1.tells (omega (arith, long, two))
   ]
 
   its_time : EachGroup (λ group. IsInTime setting scope.from kept.seen group.first) groups
   its_time i group at = elim (each group (contains_at groups i group at)) [
-    | inl old ↦ told_in_time setting alike all there here mark_alike wide ranked limits scope groups heads ends
+    | inl old ↦ told_in_time setting alike all there here mark_alike wide ranked widths after one_way limits scope groups heads ends
         kept.cut_runs kept.seen
         kept.refused findings hands (group_head group) (to_map group_head kept.groups.items group old)
-    | inr new ↦ ends_in_time setting alike all there here mark_alike wide ranked limits scope groups heads ends
+    | inr new ↦ ends_in_time setting alike all there here mark_alike wide ranked widths after one_way limits scope groups heads ends
         kept.cut_runs kept.seen
         kept.refused findings hands group.first new.1.tells
   ]
@@ -874,7 +895,7 @@ module _ (setting : Setting) (alike : Alike setting) (all : AllStand setting) (t
   its_cuts : (told ≡ []) ⊎ (EachEnd (IsEndOfRun setting limits) (pairs_of told) × TwoCutsDiffer setting (pairs_of told))
   its_cuts = elim tells_cuts.whole [
     | inl none ↦ inl none
-    | inr (is, le, some) ↦ inr (told_cuts setting alike all there here mark_alike wide ranked limits scope groups heads ends kept.cut_runs
+    | inr (is, le, some) ↦ inr (told_cuts setting alike all there here mark_alike wide ranked widths after one_way limits scope groups heads ends kept.cut_runs
         kept.seen kept.refused findings hands kept.cut_ends.items told cuts is (omega (arith, long, le)) some)
   ]
 
@@ -884,34 +905,34 @@ module _ (setting : Setting) (alike : Alike setting) (all : AllStand setting) (t
     no_cause = its_lack;
     first = its_first;
     log = its_log;
-    all = all_to setting alike all there here mark_alike wide ranked limits scope groups heads ends kept.cut_runs kept.seen kept.refused
+    all = all_to setting alike all there here mark_alike wide ranked widths after one_way limits scope groups heads ends kept.cut_runs kept.seen kept.refused
         findings hands;
-    all_exhausted = all_throughout setting alike all there here mark_alike wide ranked limits scope groups heads ends kept.cut_runs
+    all_exhausted = all_throughout setting alike all there here mark_alike wide ranked widths after one_way limits scope groups heads ends kept.cut_runs
         kept.seen kept.refused findings hands;
     in_time = its_time;
-    closed = ends_closed setting alike all there here mark_alike wide ranked limits scope groups heads ends kept.cut_runs
+    closed = ends_closed setting alike all there here mark_alike wide ranked widths after one_way limits scope groups heads ends kept.cut_runs
         kept.seen kept.refused findings hands;
-    closed_time = time_of_run setting alike all there here mark_alike wide ranked limits scope groups heads ends kept.cut_runs
+    closed_time = time_of_run setting alike all there here mark_alike wide ranked widths after one_way limits scope groups heads ends kept.cut_runs
         kept.seen kept.refused findings hands;
-    none = λ e. told_to setting alike all there here mark_alike wide ranked limits scope groups heads ends kept.cut_runs
+    none = λ e. told_to setting alike all there here mark_alike wide ranked widths after one_way limits scope groups heads ends kept.cut_runs
         kept.seen kept.refused findings hands e (few (no_groups e));
-    none_exhausted = λ e. told_throughout setting alike all there here mark_alike wide ranked limits scope groups heads ends
+    none_exhausted = λ e. told_throughout setting alike all there here mark_alike wide ranked widths after one_way limits scope groups heads ends
         kept.cut_runs kept.seen kept.refused findings hands e (few (no_groups e));
-    ends = λ none. ends_to setting alike all there here mark_alike wide ranked limits scope groups heads ends kept.cut_runs
+    ends = λ none. ends_to setting alike all there here mark_alike wide ranked widths after one_way limits scope groups heads ends kept.cut_runs
         kept.seen kept.refused findings hands (few none);
-    ends_exhausted = λ none. ends_throughout setting alike all there here mark_alike wide ranked limits scope groups heads ends
+    ends_exhausted = λ none. ends_throughout setting alike all there here mark_alike wide ranked widths after one_way limits scope groups heads ends
         kept.cut_runs kept.seen kept.refused findings hands (few none);
     cut_ends = its_cuts;
-    no_cut_ends = λ none e. cut_values_to setting alike all there here mark_alike wide ranked limits scope groups heads ends kept.cut_runs
+    no_cut_ends = λ none e. cut_values_to setting alike all there here mark_alike wide ranked widths after one_way limits scope groups heads ends kept.cut_runs
         kept.seen kept.refused findings hands (few none) kept.cut_ends.items cuts (no_cut_kept none e);
-    no_cut_ends_exhausted = λ none e. cut_values_throughout setting alike all there here mark_alike wide ranked limits scope groups heads
+    no_cut_ends_exhausted = λ none e. cut_values_throughout setting alike all there here mark_alike wide ranked widths after one_way limits scope groups heads
         ends kept.cut_runs kept.seen kept.refused findings hands (few none) kept.cut_ends.items cuts (no_cut_kept none e);
-    no_end = λ e. no_end_to setting alike all there here mark_alike wide ranked limits scope groups heads ends kept.cut_runs kept.seen
+    no_end = λ e. no_end_to setting alike all there here mark_alike wide ranked widths after one_way limits scope groups heads ends kept.cut_runs kept.seen
         kept.refused findings hands (unended e);
-    no_end_exhausted = λ e. no_end_throughout setting alike all there here mark_alike wide ranked limits scope groups heads ends
+    no_end_exhausted = λ e. no_end_throughout setting alike all there here mark_alike wide ranked widths after one_way limits scope groups heads ends
         kept.cut_runs kept.seen kept.refused findings hands (unended e);
-    cuts = cuts_to setting alike all there here mark_alike wide ranked limits scope groups heads ends kept.cut_runs kept.seen
+    cuts = cuts_to setting alike all there here mark_alike wide ranked widths after one_way limits scope groups heads ends kept.cut_runs kept.seen
         kept.refused findings hands;
-    cuts_exhausted = cuts_throughout setting alike all there here mark_alike wide ranked limits scope groups heads ends
+    cuts_exhausted = cuts_throughout setting alike all there here mark_alike wide ranked widths after one_way limits scope groups heads ends
         kept.cut_runs kept.seen kept.refused findings hands;
   }

@@ -1,6 +1,6 @@
 -- What is kept of closed slots, once one more was closed.
 use Rattle.std.proofs.Common.{◌≡◌, ◌≢◌, ◌⊎◌, ℕ, ◌<◌, ◌≤◌, Bool, false, List, [], ◌∷◌, ◌++◌, length, map, slice_get, take, None}
-use Rattle.std.proofs.Common.{Option, Some, Result, Ok, Err, OnErr, refl, sym, ap, ◌∙◌, subst, inl, inr, append-nil, append_assoc, arith}
+use Rattle.std.proofs.Common.{Option, Some, Result, Ok, Err, OnErr, OnOk, refl, sym, ap, ◌∙◌, subst, inl, inr, append-nil, append_assoc, arith}
 use Rattle.std.specs.List.{Contains}
 use Rattle.std.proofs.lemmas.Bool.{cases_lt}
 use Rattle.std.proofs.lemmas.List.Elements.{Contains-append_cases, Contains-append_left, Contains-append_right, Contains-push_cases}
@@ -15,7 +15,8 @@ use Rattle.vmodel.specs.Run.{Setting}
 use Rattle.vmachine.specs.declared.machine_state.MachineState.{MachineState}
 use Rattle.racebook.specs.Races.{Race}
 use Rattle.racebook.specs.LineRaces.{LineRace}
-use Rattle.racebook.specs.Inner.{AreEndsOf, AreInTurn, IsFoundIn, IsOfItsTime}
+use Rattle.racebook.specs.Inner.{AreEndsOf, AreInTurn, IsOfItsTime}
+use Rattle.racebook.specs.declared.slot_state.SlotState.{SlotState}
 use Rattle.racebook.specs.declared.slots.FoundInSlot.{FoundInSlot}
 use Rattle.racebook.proofs.ClosedLemmas.{slot_time}
 use Rattle.racebook.proofs.ListLemmas.{contains_at}
@@ -25,16 +26,20 @@ use Rattle.race_groups.specs.declared.group.Difference.TheVariants.{Values, Line
 use Rattle.race_groups.specs.declared.group.Group.{Group}
 use Rattle.race_groups.specs.declared.group.Name.{Name}
 use Rattle.race_groups.specs.declared.group.Scope.{Scope}
+use Rattle.race_groups.specs.declared.shown.FoundAt.{FoundAt}
+use Rattle.race_groups.specs.declared.standing.Standing.{Standing}
 use Rattle.race_groups.specs.Found.{IsNameInOne, IsOfEnds, name_of}
 use Rattle.race_groups.specs.Inner.{Adds, AllAlike, AllWhollyAlike, AreApartInSlot, AreCutsOf, AreCutsTold, AreGroupsOf, AreNamedApart}
 use Rattle.race_groups.specs.Inner.{AreTold, AreUncut, CollectsGroups, Counts, IsOpened, KeepsCut, SumsUpCuts}
 use Rattle.race_groups.specs.Inner.{CountsStill, FirstTwoUnlike, GrowsBehind, GrowsTo, HaveAllOf, IsCaused, IsEndOfSome, IsGroupOfEnds}
-use Rattle.race_groups.specs.Inner.{IsLastSeen, IsNamedByOne, IsNamedIn, IsNamedInSlot, IsOfSome, IsShownBy, KeepsGroups, OfEachFrom}
+use Rattle.race_groups.specs.Inner.{IsLastSeen, IsNamedByOne, IsNamedIn, IsNamedInSlot, IsOfSome, IsShownBy, KeepsGroups, OfEachFrom, ShowNamedFrom}
 use Rattle.race_groups.specs.Inner.{OfEnds, ShowsNamed, StaysSo, SumsUp, TakesAll, TakesSlot, TellsEnds, GroupHead, Tracing, differences_in}
 use Rattle.race_groups.specs.Inner.{setting_of, group_head, group_heads, traced_by}
+use Rattle.race_groups.specs.Standing.{AreStanding, AreStatesShown, IsFoundAt, standing_past}
 use Rattle.race_groups.proofs.AddsLemmas.{adds_none, adds_on, adds_weaker}
 use Rattle.race_groups.proofs.CountLemmas.{counts_on, open_counts, still_on, take_still}
 use Rattle.race_groups.proofs.SumLemmas.{first_before, grows_on}
+use Rattle.race_groups.proofs.StandingLemmas.{standing_more, standing_taken}
 use Rattle.race_groups.proofs.ListLemmas.{from_map, front_of_one, none_in_front, nothing_in}
 
 abbrev Pair : Type 0
@@ -48,6 +53,26 @@ each_more closings c P before last = λ i d at. elim (last_or_before closings c 
   | inr here ↦ subst P here.1 last
 ]
 
+-- what a closing shows it still shows, whatever comes behind
+shown_more : (setting : Setting) (closings : List (Closing MachineState)) (c : Closing MachineState) (place : ℕ)
+    (k : Closing MachineState) (d : Difference) → place < length closings → IsShownBy setting closings place k d →
+    IsShownBy setting (closings ++ c ∷ []) place k d
+shown_more setting closings c place k (Values race) lt shown = record {
+  standing = shown.standing;
+  stand = standing_more setting closings c place shown.standing (omega (arith, lt)) shown.stand;
+  races = shown.races;
+  are = shown.are;
+  has = shown.has;
+}
+shown_more setting closings c place k (Lines race) lt shown = record {
+  standing = shown.standing;
+  stand = standing_more setting closings c place shown.standing (omega (arith, lt)) shown.stand;
+  races = shown.races;
+  are = shown.are;
+  has = shown.has;
+}
+shown_more setting closings c place k (Ends list) lt none = none
+
 some_more : (setting : Setting) (from : ℕ) (closings : List (Closing MachineState)) (c : Closing MachineState) (d : Difference) →
     IsOfSome setting from closings d → IsOfSome setting from (closings ++ c ∷ []) d
 some_more setting from closings c d of = record {
@@ -55,7 +80,7 @@ some_more setting from closings c d of = record {
   closing = of.closing;
   at = stands_in_front closings (c ∷ []) of.place of.closing of.at;
   late = of.late;
-  shown = of.shown;
+  shown = shown_more setting closings c of.place of.closing d (place_within closings of.place of.closing of.at) of.shown;
 }
 
 end_more : (setting : Setting) (from : ℕ) (closings : List (Closing MachineState)) (c : Closing MachineState) (e : Pair) →
@@ -69,21 +94,37 @@ end_more setting from closings c e of = record {
   ended = of.ended;
 }
 
--- the differences of a slot are those that its marks show
-shown_in : (setting : Setting) (marks : List Pair) (found : FoundInSlot) → IsFoundIn setting marks found → (d : Difference) →
-    Contains (differences_in found) d → IsShownBy setting marks d
-shown_in setting marks found is d has = elim (Contains-append_cases (map Values found.races.items)
-    (map Lines found.line_races.items) d has) [
-      | inl one ↦ (let m = from_map Values found.races.items d one in
-          subst (IsShownBy setting marks) m.2 (found.races.items, is.races, m.1))
-      | inr other ↦ (let m = from_map Lines found.line_races.items d other in
-          subst (IsShownBy setting marks) m.2 (found.line_races.items, is.line_races, m.1))
+-- the differences of a slot are those that its closing shows
+shown_in : (setting : Setting) (closings : List (Closing MachineState)) (place : ℕ) (c : Closing MachineState) (standing : List Standing)
+    (given : FoundAt) → AreStanding setting closings place standing → IsFoundAt setting c.rank c.marks standing given → (d : Difference) →
+    Contains (differences_in given.found) d → IsShownBy setting closings place c d
+shown_in setting closings place c standing given stand is d has = elim (Contains-append_cases (map Values given.found.races.items)
+    (map Lines given.found.line_races.items) d has) [
+      | inl one ↦ (let m = from_map Values given.found.races.items d one in
+          subst (IsShownBy setting closings place c) m.2 (record {
+            standing = standing;
+            stand = stand;
+            races = given.found.races.items;
+            are = is.races;
+            has = m.1;
+          }))
+      | inr other ↦ (let m = from_map Lines given.found.line_races.items d other in
+          subst (IsShownBy setting closings place c) m.2 (record {
+            standing = standing;
+            stand = stand;
+            races = given.found.line_races.items;
+            are = is.line_races;
+            has = m.1;
+          }))
     ]
 
--- where the differences that marks show have their names in one place, they have them in another
-still_named : (setting : Setting) (Here There : Name → Type 0) (marks : List Pair) → ((n : Name) → Here n → There n) →
-    ShowsNamed setting Here marks → ShowsNamed setting There marks
-still_named setting Here There marks from shows = record {
+-- where the differences that a closing shows have their names in one place, they have them in another
+still_named : (setting : Setting) (Here There : Name → Type 0) (closings : List (Closing MachineState)) (place : ℕ)
+    (k : Closing MachineState) → ((n : Name) → Here n → There n) → ShowsNamed setting Here closings place k →
+    ShowsNamed setting There closings place k
+still_named setting Here There closings place k from shows = record {
+  standing = shows.standing;
+  stand = shows.stand;
   races = shows.races;
   line_races = shows.line_races;
   values = shows.values;
@@ -92,35 +133,70 @@ still_named setting Here There marks from shows = record {
   each_line = λ race has. from (record { time = race.time; variable = None }) (shows.each_line race has);
 }
 
--- what marks show is of their time
-shown_time : (setting : Setting) (k : Closing MachineState) (d : Difference) (name : Name) → IsOfItsTime setting k →
-    IsShownBy setting k.marks d →
+-- and whatever comes behind
+named_more : (setting : Setting) (from : ℕ) (Here There : Name → Type 0) (closings : List (Closing MachineState))
+    (c : Closing MachineState) → ((n : Name) → Here n → There n) → ShowNamedFrom setting from Here closings →
+    (from ≤ c.rank → ShowsNamed setting There (closings ++ c ∷ []) (length closings) c) →
+    ShowNamedFrom setting from There (closings ++ c ∷ [])
+named_more setting from Here There closings c so before last i d at late = elim (last_or_before closings c i d at) [
+  | inl there ↦
+      let shows = still_named setting Here There closings i d so (before i d there late) in
+      let lt = place_within closings i d there in
+      record {
+        standing = shows.standing;
+        stand = standing_more setting closings c i shows.standing (omega (arith, lt)) shows.stand;
+        races = shows.races;
+        line_races = shows.line_races;
+        values = shows.values;
+        lines = shows.lines;
+        each = shows.each;
+        each_line = shows.each_line;
+      }
+  | inr (here, same) ↦
+      subst (λ (n : ℕ). ShowsNamed setting There (closings ++ c ∷ []) n d) (sym here)
+      (subst (λ (e : Closing MachineState). ShowsNamed setting There (closings ++ c ∷ []) (length closings) e) same
+      (last (subst (λ (e : Closing MachineState). from ≤ e.rank) (sym same) late)))
+]
+
+-- what is seen there is of its time
+pub state_time : (setting : Setting) (k : Closing MachineState) (standing : List Standing) (gs : List SlotState) →
+    IsOfItsTime setting k → AreStatesShown setting k.rank k.marks standing gs → (g : SlotState) → Contains gs g → g.time ≡ k.rank
+state_time setting k standing gs times are g has = elim are.whole [
+  | inl (none, empty) ↦ nothing_in g (subst (λ (l : List SlotState). Contains l g) empty has)
+  | inr (some, adds) ↦ elim (adds.each g has) [
+    | inl own ↦ (let o = are.are.each g own in slot_time setting o.found g k.rank o.of (times o.place o.found o.at))
+    | inr still ↦ still.still.time_is
+  ]
+]
+
+-- what a closing shows is of its time
+shown_time : (setting : Setting) (closings : List (Closing MachineState)) (place : ℕ) (k : Closing MachineState) (d : Difference)
+    (name : Name) → IsOfItsTime setting k → IsShownBy setting closings place k d →
     name_of d ≡ Some name → name.time ≡ k.rank
-shown_time setting k (Values race) name times (races, are, has) is =
-    let p = at_contains races race has in
-    let r = are.all.each p.0 race p.1 in
+shown_time setting closings place k (Values race) name times shown is =
+    let p = at_contains shown.races race shown.has in
+    let r = shown.are.all.each p.0 race p.1 in
     let two = r.two in
     let s = listed_place race.values 0 (omega (arith, two)) in
     let seen = r.seen 0 s.0 s.1 in
-    let o = are.are.each seen.slot_state seen.among in
     let named : Name = record { time = race.time; variable = Some race.variable } in
     ap (λ (n : Name). n.time) (sym (same_Some named name is)) ∙ sym seen.time_is
-    ∙ slot_time setting o.found seen.slot_state k.rank o.of (times o.place o.found o.at)
-shown_time setting k (Lines race) name times (races, are, has) is =
-    let p = at_contains races race has in
-    let r = are.all.each p.0 race p.1 in
+    ∙ state_time setting k shown.standing shown.are.slot_states times shown.are.are seen.slot_state seen.among
+shown_time setting closings place k (Lines race) name times shown is =
+    let p = at_contains shown.races race shown.has in
+    let r = shown.are.all.each p.0 race p.1 in
     let two = r.two in
     let s = listed_place race.sides 0 (omega (arith, two)) in
     let seen = r.seen 0 s.0 s.1 in
-    let o = are.are.each seen.slot_state seen.among in
     let named : Name = record { time = race.time; variable = None } in
     ap (λ (n : Name). n.time) (sym (same_Some named name is)) ∙ sym seen.time_is
-    ∙ slot_time setting o.found seen.slot_state k.rank o.of (times o.place o.found o.at)
-shown_time setting k (Ends list) name times none is = absurd none
+    ∙ state_time setting k shown.standing shown.are.slot_states times shown.are.are seen.slot_state seen.among
+shown_time setting closings place k (Ends list) name times none is = absurd none
 
 -- what a slot gave is named once
-apart_in_slot : (setting : Setting) (marks : List Pair) (found : FoundInSlot) → IsFoundIn setting marks found → AreApartInSlot found
-apart_in_slot setting marks found is = (
+apart_in_slot : (setting : Setting) (time : ℕ) (marks : List Pair) (standing : List Standing) (given : FoundAt) →
+    IsFoundAt setting time marks standing given → AreApartInSlot given.found
+apart_in_slot setting time marks standing given is = (
   λ i j a b n lt at at' one other.
       (let here : Name = record { time = a.time; variable = Some a.variable } in
       let there : Name = record { time = b.time; variable = Some b.variable } in
@@ -142,13 +218,33 @@ apart_in_slot setting marks found is = (
       ]),
 )
 
--- and each of it is shown by the marks
-named_by_slot : (setting : Setting) (marks : List Pair) (found : FoundInSlot) → IsFoundIn setting marks found → (name : Name) →
-    IsNamedInSlot found name → (d : Difference) × IsShownBy setting marks d × (name_of d ≡ Some name)
-named_by_slot setting marks found is name (inl one) =
-    (Values one.race, (found.races.items, is.races, contains_at found.races.items one.place one.race one.at), one.is)
-named_by_slot setting marks found is name (inr one) =
-    (Lines one.race, (found.line_races.items, is.line_races, contains_at found.line_races.items one.place one.race one.at), one.is)
+-- and each of it is shown by the closing
+named_by_slot : (setting : Setting) (closings : List (Closing MachineState)) (place : ℕ) (c : Closing MachineState)
+    (standing : List Standing) (given : FoundAt) → AreStanding setting closings place standing →
+    IsFoundAt setting c.rank c.marks standing given → (name : Name) →
+    IsNamedInSlot given.found name → (d : Difference) × IsShownBy setting closings place c d × (name_of d ≡ Some name)
+named_by_slot setting closings place c standing given stand is name (inl one) = (
+  Values one.race,
+  record {
+    standing = standing;
+    stand = stand;
+    races = given.found.races.items;
+    are = is.races;
+    has = contains_at given.found.races.items one.place one.race one.at;
+  },
+  one.is,
+)
+named_by_slot setting closings place c standing given stand is name (inr one) = (
+  Lines one.race,
+  record {
+    standing = standing;
+    stand = stand;
+    races = given.found.line_races.items;
+    are = is.line_races;
+    has = contains_at given.found.line_races.items one.place one.race one.at;
+  },
+  one.is,
+)
 
 by_more : (setting : Setting) (from : ℕ) (closings : List (Closing MachineState)) (c : Closing MachineState) (name : Name) →
     IsNamedByOne setting from closings name → IsNamedByOne setting from (closings ++ c ∷ []) name
@@ -158,7 +254,7 @@ by_more setting from closings c name by = record {
   at = stands_in_front closings (c ∷ []) by.place by.closing by.at;
   late = by.late;
   difference = by.difference;
-  shown = by.shown;
+  shown = shown_more setting closings c by.place by.closing by.difference (place_within closings by.place by.closing by.at) by.shown;
   is = by.is;
 }
 
@@ -173,50 +269,70 @@ turn_before setting closings c turn = record {
 -- no name is of two closings
 not_both : (setting : Setting) (from : ℕ) (closings : List (Closing MachineState)) (c : Closing MachineState)
     (name : Name) (d : Difference) →
-    AreInTurn setting (closings ++ c ∷ []) → IsNamedByOne setting from closings name → IsShownBy setting c.marks d →
+    AreInTurn setting (closings ++ c ∷ []) → IsNamedByOne setting from closings name →
+    IsShownBy setting (closings ++ c ∷ []) (length closings) c d →
     name_of d ≡ Some name → ⊥
 not_both setting from closings c name d turn by shown is =
     let front = stands_in_front closings (c ∷ []) by.place by.closing by.at in
     let last = stands_last closings c in
     let lt = turn.rise by.place (length closings) by.closing c (place_within closings by.place by.closing by.at) front last in
-    let old = shown_time setting by.closing by.difference name (turn.times by.place by.closing front) by.shown by.is in
-    let new = shown_time setting c d name (turn.times (length closings) c last) shown is in
+    let old = shown_time setting closings by.place by.closing by.difference name (turn.times by.place by.closing front) by.shown by.is in
+    let new = shown_time setting (closings ++ c ∷ []) (length closings) c d name (turn.times (length closings) c last) shown is in
     omega (arith, lt, old, new)
 
 -- the differences of a slot are named where it was taken
-slot_named : (setting : Setting) (marks : List Pair) (found : FoundInSlot) (Here : Name → Type 0) → IsFoundIn setting marks found →
-    ((n : Name) → IsNamedInSlot found n → Here n) → ShowsNamed setting Here marks
-slot_named setting marks found Here is named = record {
-  races = found.races.items;
-  line_races = found.line_races.items;
+slot_named : (setting : Setting) (closings : List (Closing MachineState)) (place : ℕ) (c : Closing MachineState)
+    (standing : List Standing) (given : FoundAt) (Here : Name → Type 0) → AreStanding setting closings place standing →
+    IsFoundAt setting c.rank c.marks standing given → ((n : Name) → IsNamedInSlot given.found n → Here n) →
+    ShowsNamed setting Here closings place c
+slot_named setting closings place c standing given Here stand is named = record {
+  standing = standing;
+  stand = stand;
+  races = given.found.races.items;
+  line_races = given.found.line_races.items;
   values = is.races;
   lines = is.line_races;
-  each = λ race has. (let m = at_contains found.races.items race has in
-      named (record { time = race.time; variable = Some race.variable })
-      (inl (record { place = m.0; race = race; within = place_within found.races.items m.0 race m.1; at = m.1; is = refl })));
-  each_line = λ race has. (let m = at_contains found.line_races.items race has in
-      named (record { time = race.time; variable = None })
-      (inr (record { place = m.0; race = race; within = place_within found.line_races.items m.0 race m.1; at = m.1; is = refl })));
+  each = λ race has. (let m = at_contains given.found.races.items race has in
+      named (record { time = race.time; variable = Some race.variable }) (inl (record {
+        place = m.0;
+        race = race;
+        within = place_within given.found.races.items m.0 race m.1;
+        at = m.1;
+        is = refl;
+      })));
+  each_line = λ race has. (let m = at_contains given.found.line_races.items race has in
+      named (record { time = race.time; variable = None }) (inr (record {
+        place = m.0;
+        race = race;
+        within = place_within given.found.line_races.items m.0 race m.1;
+        at = m.1;
+        is = refl;
+      })));
 }
 
-module _ (tracing : Tracing) (scope : Scope) (closings : List (Closing MachineState)) (c : Closing MachineState) (found : FoundInSlot)
-    (is : IsFoundIn tracing.setting c.marks found) (groups new_groups : List Group) (heads new_heads : List GroupHead)
+module _ (tracing : Tracing) (scope : Scope) (closings : List (Closing MachineState)) (c : Closing MachineState)
+    (standing : List Standing) (given : FoundAt) (stand : AreStanding tracing.setting closings (length closings) standing)
+    (is : IsFoundAt tracing.setting c.rank c.marks standing given) (groups new_groups : List Group) (heads new_heads : List GroupHead)
     (ends new_ends : List Pair)
     (cut new_cut : Bool) (seen new_seen : Option ℕ) (refused new_refused : Option NoMemory)
     (kept : AreGroupsOf tracing scope groups heads ends cut seen refused closings)
-    (adds : Adds tracing (Contains (differences_in found)) heads new_heads) (early_same : c.rank < scope.from → new_groups ≡ groups)
+    (adds : Adds tracing (Contains (differences_in given.found)) heads new_heads) (early_same : c.rank < scope.from → new_groups ≡ groups)
     (early_heads : c.rank < scope.from → new_heads ≡ heads)
-    (counts : scope.from ≤ c.rank → AreApartInSlot found → Counts scope.names (IsNamedInSlot found) groups new_groups)
+    (counts : scope.from ≤ c.rank → AreApartInSlot given.found → Counts scope.names (IsNamedInSlot given.found) groups new_groups)
     (before : c.rank < scope.from → new_ends ≡ ends) (sums : scope.from ≤ c.rank →
-    SumsUp tracing.setting (pairs_of found.ends.items) ends new_ends)
-    (uncut : new_cut ≡ false → (cut ≡ false) × AreUncut tracing.setting (pairs_of found.ends.items))
+    SumsUp tracing.setting (pairs_of given.found.ends.items) ends new_ends)
+    (uncut : new_cut ≡ false → (cut ≡ false) × AreUncut tracing.setting (pairs_of given.found.ends.items))
     (none_seen : length c.marks ≡ 0 → new_seen ≡ seen) (some_seen : 0 < length c.marks → new_seen ≡ Some c.rank)
     (same_refused : new_refused ≡ refused) where
   abbrev all : List (Closing MachineState)
   all = closings ++ c ∷ []
 
   abbrev taken : List Pair
-  taken = pairs_of found.ends.items
+  taken = pairs_of given.found.ends.items
+
+  -- the marks that stand, with this closing behind
+  stand_here : AreStanding tracing.setting all (length closings) standing
+  stand_here = standing_more tracing.setting closings c (length closings) standing (omega arith) stand
 
   -- the ends that were kept stand in front
   in_front : (more : List Pair) × (new_ends ≡ ends ++ more)
@@ -242,7 +358,7 @@ module _ (tracing : Tracing) (scope : Scope) (closings : List (Closing MachineSt
         closing = c;
         at = stands_last closings c;
         late = late;
-        shown = shown_in tracing.setting c.marks found is t.first (adds.firsts t new);
+        shown = shown_in tracing.setting all (length closings) c standing given stand_here is t.first (adds.firsts t new);
       }
     ]
   ]
@@ -255,8 +371,8 @@ module _ (tracing : Tracing) (scope : Scope) (closings : List (Closing MachineSt
   all_early early = subst (λ (l : List Group). HaveAllOf tracing.setting scope l new_refused all) (sym (early_same early)) (record {
     rests = kept.all.rests;
     summaries = kept.all.summaries;
-    shown = each_more closings c (λ d. scope.from ≤ d.rank → ShowsNamed tracing.setting (IsNameInOne groups kept.all.rests) d.marks)
-        kept.all.shown (λ late. absurd (omega (arith, early, late)));
+    shown = named_more tracing.setting scope.from (IsNameInOne groups kept.all.rests) (IsNameInOne groups kept.all.rests) closings c
+        (λ n has. has) kept.all.shown (λ late. absurd (omega (arith, early, late)));
     only = λ sound name has. by_more tracing.setting scope.from closings c name (kept.all.only (was_sound sound) name has);
     once = λ sound turn. kept.all.once (was_sound sound) (turn_before tracing.setting closings c turn);
   })
@@ -264,17 +380,16 @@ module _ (tracing : Tracing) (scope : Scope) (closings : List (Closing MachineSt
   -- each difference of a later one is in a group then
   all_late : scope.from ≤ c.rank → HaveAllOf tracing.setting scope new_groups new_refused all
   all_late late =
-      let m = counts late (apart_in_slot tracing.setting c.marks found is) kept.all.rests kept.all.summaries in
+      let m = counts late (apart_in_slot tracing.setting c.rank c.marks standing given is) kept.all.rests kept.all.summaries in
       record {
         rests = m.after;
         summaries = m.summaries;
-        shown = each_more closings c (λ d. scope.from ≤ d.rank → ShowsNamed tracing.setting (IsNameInOne new_groups m.after) d.marks)
-            (λ i d at le. still_named tracing.setting (IsNameInOne groups kept.all.rests) (IsNameInOne new_groups m.after) d.marks
-            (λ n has. (has.0, m.still has.0 n has.1)) (kept.all.shown i d at le))
-            (λ le. slot_named tracing.setting c.marks found (IsNameInOne new_groups m.after) is m.named);
+        shown = named_more tracing.setting scope.from (IsNameInOne groups kept.all.rests) (IsNameInOne new_groups m.after) closings c
+            (λ n has. (has.0, m.still has.0 n has.1)) kept.all.shown
+            (λ le. slot_named tracing.setting all (length closings) c standing given (IsNameInOne new_groups m.after) stand_here is m.named);
         only = λ sound name has. elim (m.only name has) [
           | inl was ↦ by_more tracing.setting scope.from closings c name (kept.all.only (was_sound sound) name was)
-          | inr new ↦ (let by = named_by_slot tracing.setting c.marks found is name new in
+          | inr new ↦ (let by = named_by_slot tracing.setting all (length closings) c standing given stand_here is name new in
               record {
                 place = length closings;
                 closing = c;
@@ -286,7 +401,7 @@ module _ (tracing : Tracing) (scope : Scope) (closings : List (Closing MachineSt
               })
         ];
         once = λ sound turn. m.once (λ name new was.
-            (let by = named_by_slot tracing.setting c.marks found is name new in
+            (let by = named_by_slot tracing.setting all (length closings) c standing given stand_here is name new in
             not_both tracing.setting scope.from closings c name by.0 turn (kept.all.only (was_sound sound) name was) by.1 by.2))
             (kept.all.once (was_sound sound) (turn_before tracing.setting closings c turn));
       }
@@ -386,7 +501,7 @@ module _ (tracing : Tracing) (scope : Scope) (closings : List (Closing MachineSt
 
 -- the same of cut ends
 module _ (setting : Setting) (from : ℕ) (closings : List (Closing MachineState)) (c : Closing MachineState) (found : FoundInSlot)
-    (is : IsFoundIn setting c.marks found) (ends new_ends cuts new_cuts : List Pair)
+    (ends_are : AreEndsOf setting c.marks (pairs_of found.ends.items)) (ends new_ends cuts new_cuts : List Pair)
     (no_end : ends ≡ [] → OfEachFrom from closings (λ marks. AreEndsOf setting marks []))
     (kept : AreCutsOf setting from ends cuts closings) (before : c.rank < from → new_ends ≡ ends)
     (cuts_before : c.rank < from → new_cuts ≡ cuts) (sums : from ≤ c.rank → SumsUp setting (pairs_of found.ends.items) ends new_ends)
@@ -402,7 +517,7 @@ module _ (setting : Setting) (from : ℕ) (closings : List (Closing MachineState
         let s = sums_cuts late in
         elim (Contains-append_cases cuts s.more end (subst (λ (l : List Pair). Contains l end) s.is has)) [
           | inl old ↦ end_more setting from closings c end (kept.each end old)
-          | inr new ↦ (let of = is.ends.each end (s.among end new) in record {
+          | inr new ↦ (let of = ends_are.each end (s.among end new) in record {
             place = length closings;
             closing = c;
             at = stands_last closings c;
@@ -433,7 +548,7 @@ module _ (setting : Setting) (from : ℕ) (closings : List (Closing MachineState
         | inl bare ↦ (λ i d at late. ([], no_end bare i d at late, λ end has. nothing_in end has))
         | inr there ↦ kept.none (had_none none) one there
       ])
-      (λ late. (pairs_of found.ends.items, is.ends, (sums_cuts late).none none one at))
+      (λ late. (pairs_of found.ends.items, ends_are, (sums_cuts late).none none one at))
 
   kept_cut : KeepsCut setting new_ends new_cuts
   kept_cut = elim (cases_lt c.rank from) [
@@ -497,7 +612,7 @@ same_all setting scope groups new_groups refused new_refused closings all still 
     record {
       rests = m.after;
       summaries = m.summaries;
-      shown = λ i d at late. still_named setting (IsNameInOne groups all.rests) (IsNameInOne new_groups m.after) d.marks
+      shown = λ i d at late. still_named setting (IsNameInOne groups all.rests) (IsNameInOne new_groups m.after) closings i d
           (λ n has. (has.0, m.still has.0 n has.1)) (all.shown i d at late);
       only = λ sound. absurd (gone sound);
       once = λ sound. absurd (gone sound);
@@ -544,14 +659,17 @@ collects_same old new same same_seen gone = λ first closings collected.
         cuts = same_cuts (traced_by first).setting first.scope.from old.ends.items new.ends.items old.cut_ends.items new.cut_ends.items
             (before ++ closings) (collected.kept before so).cuts same.ends same.cut_ends;
         unended = λ e. (collected.kept before so).unended (same.ended e);
+        standing = subst (AreStanding (traced_by first).setting (before ++ closings) (length (before ++ closings))) (sym same.standing)
+            (collected.kept before so).standing;
       };
     }
 
 -- one slot more
-pub collects_more : (old new : RaceGroups) (c : Closing MachineState) (found : FoundInSlot) → IsFoundIn (setting_of old) c.marks found →
-    TakesSlot c.rank found old new → (length c.marks ≡ 0 → new.seen ≡ old.seen) → (0 < length c.marks → new.seen ≡ Some c.rank) →
-    new.refused ≡ old.refused → CollectsMore CollectsGroups old c new
-collects_more old new c found of takes none_seen some_seen same_refused = λ first closings collected.
+pub collects_more : (old new : RaceGroups) (c : Closing MachineState) (given : FoundAt) →
+    IsFoundAt (setting_of old) c.rank c.marks old.standing.items given → TakesSlot c.rank given.found old new → (length c.marks ≡ 0 → new.seen ≡ old.seen) → (0 < length c.marks → new.seen ≡ Some c.rank) →
+    new.refused ≡ old.refused → new.standing.items ≡ standing_past c.rank (old.standing.items ++ given.going_on.items) →
+    CollectsMore CollectsGroups old c new
+collects_more old new c given of takes none_seen some_seen same_refused stands = λ first closings collected.
     (let P : Tracing → Scope → Type 0 = λ t scope. (before : List (Closing MachineState)) → KeepsGroups t scope first before →
     KeepsGroups t scope old (before ++ closings) in
     let so_far : P (traced_by old) old.scope = subst (λ (t : Tracing). P t old.scope) (sym collected.traced)
@@ -560,18 +678,21 @@ collects_more old new c found of takes none_seen some_seen same_refused = λ fir
     KeepsGroups t scope new (before ++ (closings ++ c ∷ [])) in
     let behind : Q (traced_by old) old.scope = λ before so.
     subst (KeepsGroups (traced_by old) old.scope new) (append_assoc before closings (c ∷ [])) (record {
-      groups = kept_more (traced_by old) old.scope (before ++ closings) c found of old.groups.items new.groups.items
+      groups = kept_more (traced_by old) old.scope (before ++ closings) c old.standing.items given (so_far before so).standing of
+          old.groups.items new.groups.items
           (group_heads old.groups.items)
           (group_heads new.groups.items) (pairs_of old.ends.items) (pairs_of new.ends.items) old.cut_runs new.cut_runs old.seen new.seen
           old.refused new.refused (so_far before so).groups takes.adds takes.early (λ early. ap group_heads (takes.early early)) takes.counts
           (λ early. ap pairs_of (takes.before early)) takes.ends takes.cut
           none_seen some_seen same_refused;
-      cuts = cuts_more (setting_of old) old.scope.from (before ++ closings) c found of (pairs_of old.ends.items) (pairs_of new.ends.items)
+      cuts = cuts_more (setting_of old) old.scope.from (before ++ closings) c given.found of.ends (pairs_of old.ends.items) (pairs_of new.ends.items)
           (pairs_of old.cut_ends.items) (pairs_of new.cut_ends.items) (so_far before so).groups.no_end (so_far before so).cuts
           (λ early. ap pairs_of (takes.before early)) (λ early. ap pairs_of (takes.cuts_before early)) takes.ends takes.cut_ends;
       unended = λ e. each_more (before ++ closings) c (λ d. AreEndsOf (setting_of old) d.marks [])
           ((so_far before so).unended (takes.ended e).0)
           (subst (λ (l : List (FoundMark MachineState)). AreEndsOf (setting_of old) c.marks (pairs_of l)) (takes.ended e).1 of.ends);
+      standing = standing_taken (setting_of old) (before ++ closings) c old.standing.items given.going_on.items (so_far before so).standing
+          of.going_on new.standing.items stands;
     }) in
     record {
       traced = takes.traced ∙ collected.traced;
@@ -642,7 +763,7 @@ told_more setting scope groups new_groups refused closings ends tracing group al
     record {
       rests = m.after;
       summaries = m.summaries;
-      shown = λ i d at late. still_named setting (IsNameInOne groups all.rests) (IsNameInOne new_groups m.after) d.marks
+      shown = λ i d at late. still_named setting (IsNameInOne groups all.rests) (IsNameInOne new_groups m.after) closings i d
           (λ n has. (has.0, m.still has.0 n has.1)) (all.shown i d at late);
       only = λ sound name has. elim (m.only name has) [
         | inl was ↦ all.only sound name was
@@ -780,6 +901,28 @@ takes_seen time found old new seen takes = record {
   cut = takes.cut;
 }
 
+-- nor which marks stand
+pub takes_standing : (time : ℕ) (found : FoundInSlot) (old mid new : RaceGroups) → TakesSlot time found old mid →
+    new ≡ record mid { standing = new.standing } → TakesSlot time found old new
+takes_standing time found old mid new takes is = subst (TakesSlot time found old) (sym is) (record {
+  traced = takes.traced;
+  scope = takes.scope;
+  adds = takes.adds;
+  early = takes.early;
+  counts = takes.counts;
+  before = takes.before;
+  ends = takes.ends;
+  cuts_before = takes.cuts_before;
+  cut_ends = takes.cut_ends;
+  ended = takes.ended;
+  cut = takes.cut;
+})
+
+-- what holds anyway
+pub always_ok : {U E P : Type 0} (result : Result U E) → P → OnOk result P
+always_ok (Ok u) p = p
+always_ok (Err e) p = tt
+
 -- ---- it grows
 
 pub grows_by : (tracing : Tracing) (P : Difference → Type 0) (old new : List GroupHead) → Adds tracing P old new → GrowsTo old new
@@ -802,6 +945,20 @@ grows_all old new mid traced scope ended cut one other count_one count_other end
   cut = λ e. sym cut ∙ e;
 }
 
+-- whichever marks stand
+pub grows_standing : (old mid new : RaceGroups) → GrowsBehind old mid → new ≡ record mid { standing = new.standing } →
+    GrowsBehind old new
+grows_standing old mid new grows is = subst (GrowsBehind old) (sym is) (record {
+  traced = grows.traced;
+  scope = grows.scope;
+  groups = grows.groups;
+  still = grows.still;
+  ends = grows.ends;
+  cut_ends = grows.cut_ends;
+  ended = grows.ended;
+  cut = grows.cut;
+})
+
 -- where what else the slot changed before stands in `mid`
 pub grows_late : (old mid new : RaceGroups) → traced_by mid ≡ traced_by old → mid.scope ≡ old.scope → mid.groups.items ≡ old.groups.items →
     mid.ends.items ≡ old.ends.items → mid.cut_ends.items ≡ old.cut_ends.items → (mid.ended ≡ false → old.ended ≡ false) →
@@ -822,8 +979,9 @@ grows_late old mid new traced scope same ends cut_ends ended cut grows = record 
 pub back_again : (old mid new : RaceGroups) (g e k : ℕ) → g ≡ length old.groups.items → e ≡ length old.ends.items →
     k ≡ length old.cut_ends.items → GrowsBehind old mid → traced_by new ≡ traced_by mid → new.scope ≡ mid.scope →
     new.groups.items ≡ take g mid.groups.items → new.ends.items ≡ take e mid.ends.items →
-    new.cut_ends.items ≡ take k mid.cut_ends.items → new.ended ≡ mid.ended → new.cut_runs ≡ mid.cut_runs → StaysSo old new
-back_again old mid new g e k g_is e_is k_is grows traced scope groups ends cut_ends ended cut =
+    new.cut_ends.items ≡ take k mid.cut_ends.items → new.ended ≡ mid.ended → new.cut_runs ≡ mid.cut_runs →
+    new.standing.items ≡ old.standing.items → StaysSo old new
+back_again old mid new g e k g_is e_is k_is grows traced scope groups ends cut_ends ended cut stands =
     let len : length (group_heads old.groups.items) ≡ length old.groups.items = length-map old.groups.items group_head in
     record {
       traced = traced ∙ grows.traced;
@@ -840,4 +998,5 @@ back_again old mid new g e k g_is e_is k_is grows traced scope groups ends cut_e
           ∙ take-append_seam old.cut_ends.items grows.cut_ends.0;
       ended = λ none. grows.ended (sym ended ∙ none);
       cut = λ none. grows.cut (sym cut ∙ none);
+      standing = stands;
     }

@@ -4,5 +4,7 @@ pub mod CountLemmas
 pub mod SideLemmas
 pub mod SumLemmas
 pub mod CutLemmas
+pub mod StandingLemmas
 pub mod KeptLemmas
+pub mod ShownLemmas
 pub mod FoundLemmas

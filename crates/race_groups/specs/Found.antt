@@ -17,8 +17,6 @@ use Rattle.vmodel.specs.State.{State}
 use Rattle.vmodel.specs.Run.{Setting, rules_of, state_after, end_of}
 use Rattle.vmachine.specs.declared.machine_state.MachineState.{MachineState}
 use Rattle.vmachine.specs.Machines.{Stands}
-use Rattle.racebook.specs.Races.{IsRace, TwoRunsDiffer}
-use Rattle.racebook.specs.LineRaces.{IsLineRace, TwoRunsPrint}
 use Rattle.racebook.specs.InTime.{EachEnd, IsClosed, IsEndOfRun}
 use Rattle.cause.specs.Causes.{HasNoCause, IsCause}
 use Rattle.race_groups.specs.declared.group.Difference.{Difference}
@@ -27,6 +25,7 @@ use Rattle.race_groups.specs.declared.group.Group.{Group}
 use Rattle.race_groups.specs.declared.group.Name.{Name}
 use Rattle.race_groups.specs.declared.group.Races.{Races}
 use Rattle.race_groups.specs.declared.group.Scope.{Scope}
+use Rattle.race_groups.specs.Shown.{IsLineRaceAt, IsRaceAt, TwoRunsDifferAt, TwoRunsPrintAt}
 
 -- ---- one difference, and its cause
 
@@ -95,8 +94,8 @@ pub record TwoCutsDiffer (setting : Setting) (ends : List (MachineState × List 
 
 -- runs within the limits differ so, each under its log
 abbrev pub IsDifference : Setting → Limits → Difference → Type 0
-IsDifference setting limits (Values race) = IsRace setting limits race
-IsDifference setting limits (Lines race) = IsLineRace setting limits race
+IsDifference setting limits (Values race) = IsRaceAt setting limits race
+IsDifference setting limits (Lines race) = IsLineRaceAt setting limits race
 IsDifference setting limits (Ends ends) = EachEnd (IsEndOfRun setting limits) (pairs_of ends.items)
     × TwoEndsDiffer setting (pairs_of ends.items)
 
@@ -170,10 +169,10 @@ pub record IsNameIn (groups : List Group) (rests : ℕ → List Name) (place : �
 abbrev pub IsNameInOne : List Group → (ℕ → List Name) → Name → Type 0
 IsNameInOne groups rests name = (place : ℕ) × IsNameIn groups rests place name
 
--- two runs of at most so many departures differ at this time, in this variable or, where it is of none, in the lines that the slot printed
+-- two runs of at most so many departures differ at this time (`Shown`), in this variable or, where it is of none, in lines
 abbrev pub TwoRunsDifferIn : Setting → ℕ → ℕ → Option ℕ → Type 0
-TwoRunsDifferIn setting depart time None = TwoRunsPrint setting depart time
-TwoRunsDifferIn setting depart time (Some variable) = TwoRunsDiffer setting depart time variable
+TwoRunsDifferIn setting depart time None = TwoRunsPrintAt setting depart time
+TwoRunsDifferIn setting depart time (Some variable) = TwoRunsDifferAt setting depart time variable
 
 -- the name stands at place k of what the group at place i sums up
 pub record IsNamedAt (groups : List Group) (rests : ℕ → List Name) (i k : ℕ) (name : Name) : Type 0 where
@@ -193,15 +192,15 @@ pub record NoneIsMadeUp (setting : Setting) (depart : ℕ) (groups : List Group)
       × TwoRunsDifferIn setting depart name.time name.variable
   pub named_once : AreNamedOnce groups rests
 
--- Wherever two runs of at most so many departures differ at these times, in a variable at the end of a slot or in the lines that a slot
--- printed, a group has the difference. If memory wasn't refused meanwhile, it has no others.
+-- Wherever two runs of at most so many departures differ at these times (`Shown`), in a variable or in lines, a group has the difference.
+-- If memory wasn't refused meanwhile, it has no others.
 pub record AllAreCounted (setting : Setting) (depart names : ℕ) (groups : List Group) (refused : Option NoMemory)
     (Within : ℕ → Type 0) : Type 0 where
   pub rests : ℕ → List Name
   pub summaries : AllSummarize names groups rests
-  pub values : (time variable : ℕ) → Within time → TwoRunsDiffer setting depart time variable →
+  pub values : (time variable : ℕ) → Within time → TwoRunsDifferAt setting depart time variable →
       IsNameInOne groups rests (record { time = time; variable = Some variable })
-  pub lines : (time : ℕ) → Within time → TwoRunsPrint setting depart time →
+  pub lines : (time : ℕ) → Within time → TwoRunsPrintAt setting depart time →
       IsNameInOne groups rests (record { time = time; variable = None })
   pub none_made_up : refused ≡ None → NoneIsMadeUp setting depart groups rests Within
 
@@ -221,11 +220,11 @@ AllCutAlike setting depart Within = (log other : List (ℕ × ℕ)) (steps other
     Within (state_after setting log steps).queue.time → Within (state_after setting other others).queue.time →
     CutAlike (state_after setting log steps) (state_after setting other others)
 
--- of runs of at most so many departures: at these times no two differ in a variable at the end of a slot, no two print different lines
--- in a slot, and all that end do so alike
+-- of runs of at most so many departures: at these times no two differ in a variable, no two in lines (`Shown`), and all that end do so
+-- alike
 pub record NoneDiffer (setting : Setting) (depart : ℕ) (Within : ℕ → Type 0) : Type 0 where
-  pub values : (time variable : ℕ) → Within time → TwoRunsDiffer setting depart time variable → ⊥
-  pub lines : (time : ℕ) → Within time → TwoRunsPrint setting depart time → ⊥
+  pub values : (time variable : ℕ) → Within time → TwoRunsDifferAt setting depart time variable → ⊥
+  pub lines : (time : ℕ) → Within time → TwoRunsPrintAt setting depart time → ⊥
   pub ends : AllEndsAgree setting depart Within
 
 -- none that ends at these times was cut by the time limit

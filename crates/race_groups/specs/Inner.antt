@@ -16,7 +16,7 @@ use Rattle.vmachine.specs.Machines.{Stands}
 use Rattle.vmachine.specs.Reads.{end_in}
 use Rattle.racebook.specs.Races.{Race}
 use Rattle.racebook.specs.LineRaces.{LineRace}
-use Rattle.racebook.specs.Inner.{AreEndsOf, AreInTurn, AreLineRacesOf, AreRacesOf, HasEnded}
+use Rattle.racebook.specs.Inner.{AreEndsOf, AreInTurn, HasEnded}
 use Rattle.racebook.specs.declared.slots.FoundInSlot.{FoundInSlot}
 use Rattle.cause.specs.Causes.{HasNoCause, IsCause}
 use Rattle.cause.specs.declared.cause.Cause.{Cause}
@@ -31,6 +31,8 @@ use Rattle.race_groups.specs.declared.group.Name.{Name}
 use Rattle.race_groups.specs.declared.group.Scope.{Scope}
 use Rattle.race_groups.specs.Found.{AllSummarize, AreNamedOnce, IsLogOf, IsNameIn, IsNameInOne, TellsNoEnds, Verdict, compared_by}
 use Rattle.race_groups.specs.Found.{cuts_slot, name_of}
+use Rattle.race_groups.specs.Standing.{AreLineRacesShown, AreRacesShown, AreStanding, ShowsLineRace, ShowsRace}
+use Rattle.race_groups.specs.declared.standing.Standing.{Standing}
 
 -- ---- groups
 
@@ -331,21 +333,22 @@ pub record StaysSo (old new : RaceGroups) : Type 0 where
   pub cut_ends : new.cut_ends.items ≡ old.cut_ends.items
   pub ended : new.ended ≡ false → old.ended ≡ false
   pub cut : new.cut_runs ≡ false → old.cut_runs ≡ false
+  pub standing : new.standing.items ≡ old.standing.items
 
 -- ---- closings
 
--- the marks of a slot show the difference
-abbrev pub IsShownBy : Setting → List (MachineState × List (ℕ × ℕ)) → Difference → Type 0
-IsShownBy setting marks (Values race) = (races : List Race) × AreRacesOf setting marks races × Contains races race
-IsShownBy setting marks (Lines race) = (races : List LineRace) × AreLineRacesOf setting marks races × Contains races race
-IsShownBy setting marks (Ends ends) = ⊥
+-- the closing at this place shows the difference
+abbrev pub IsShownBy : Setting → List (Closing MachineState) → ℕ → Closing MachineState → Difference → Type 0
+IsShownBy setting closings place c (Values race) = ShowsRace setting closings place c race
+IsShownBy setting closings place c (Lines race) = ShowsLineRace setting closings place c race
+IsShownBy setting closings place c (Ends ends) = ⊥
 
 pub record IsOfSome (setting : Setting) (from : ℕ) (closings : List (Closing MachineState)) (difference : Difference) : Type 0 where
   pub place : ℕ
   pub closing : Closing MachineState
   pub at : slice_get closings place ≡ Some closing
   pub late : from ≤ closing.rank
-  pub shown : IsShownBy setting closing.marks difference
+  pub shown : IsShownBy setting closings place closing difference
 
 pub record IsEndOfSome (setting : Setting) (from : ℕ) (closings : List (Closing MachineState))
     (end : MachineState × List (ℕ × ℕ)) : Type 0 where
@@ -356,14 +359,22 @@ pub record IsEndOfSome (setting : Setting) (from : ℕ) (closings : List (Closin
   pub among : Contains closing.marks end
   pub ended : HasEnded setting end.0
 
--- each difference that the marks show has its name here
-pub record ShowsNamed (setting : Setting) (IsHere : Name → Type 0) (marks : List (MachineState × List (ℕ × ℕ))) : Type 0 where
+-- each difference that the closing at this place shows has its name here
+pub record ShowsNamed (setting : Setting) (IsHere : Name → Type 0) (closings : List (Closing MachineState)) (place : ℕ)
+    (c : Closing MachineState) : Type 0 where
+  pub standing : List Standing
+  pub stand : AreStanding setting closings place standing
   pub races : List Race
   pub line_races : List LineRace
-  pub values : AreRacesOf setting marks races
-  pub lines : AreLineRacesOf setting marks line_races
+  pub values : AreRacesShown setting c.rank c.marks standing races
+  pub lines : AreLineRacesShown setting c.rank c.marks standing line_races
   pub each : (race : Race) → Contains races race → IsHere (record { time = race.time; variable = Some race.variable })
   pub each_line : (race : LineRace) → Contains line_races race → IsHere (record { time = race.time; variable = None })
+
+-- each difference that a closing from this time on shows has its name here
+abbrev pub ShowNamedFrom : Setting → ℕ → (Name → Type 0) → List (Closing MachineState) → Type 0
+ShowNamedFrom setting from IsHere closings = (place : ℕ) (c : Closing MachineState) → slice_get closings place ≡ Some c → from ≤ c.rank →
+    ShowsNamed setting IsHere closings place c
 
 -- the marks in which runs end are so
 abbrev pub OfEnds : Setting → List (MachineState × List (ℕ × ℕ)) → (List (MachineState × List (ℕ × ℕ)) → Type 0) → Type 0
@@ -373,22 +384,22 @@ OfEnds setting marks P = (ends : List (MachineState × List (ℕ × ℕ))) × Ar
 abbrev pub OfEachFrom : ℕ → List (Closing MachineState) → (List (MachineState × List (ℕ × ℕ)) → Type 0) → Type 0
 OfEachFrom from closings P = OfEach closings (λ c. from ≤ c.rank → P c.marks)
 
--- the marks of a closing from this time on show a difference of the name
+-- a closing from this time on shows a difference of the name
 pub record IsNamedByOne (setting : Setting) (from : ℕ) (closings : List (Closing MachineState)) (name : Name) : Type 0 where
   pub place : ℕ
   pub closing : Closing MachineState
   pub at : slice_get closings place ≡ Some closing
   pub late : from ≤ closing.rank
   pub difference : Difference
-  pub shown : IsShownBy setting closing.marks difference
+  pub shown : IsShownBy setting closings place closing difference
   pub is : name_of difference ≡ Some name
 
--- from this time on each difference that the marks of a closing show is in a group; if memory wasn't refused, no other is, and none twice
+-- from this time on each difference that a closing shows is in a group; if memory wasn't refused, no other is, and none twice
 pub record HaveAllOf (setting : Setting) (scope : Scope) (groups : List Group) (refused : Option NoMemory)
     (closings : List (Closing MachineState)) : Type 0 where
   pub rests : ℕ → List Name
   pub summaries : AllSummarize scope.names groups rests
-  pub shown : OfEachFrom scope.from closings (ShowsNamed setting (IsNameInOne groups rests))
+  pub shown : ShowNamedFrom setting scope.from (IsNameInOne groups rests) closings
   pub only : refused ≡ None → (name : Name) → IsNameInOne groups rests name → IsNamedByOne setting scope.from closings name
   pub once : refused ≡ None → AreInTurn setting closings → AreNamedOnce groups rests
 
@@ -433,6 +444,7 @@ pub record KeepsGroups (tracing : Tracing) (scope : Scope) (kept : RaceGroups) (
       (pairs_of kept.ends.items) kept.cut_runs kept.seen kept.refused closings
   pub cuts : AreCutsOf tracing.setting scope.from (pairs_of kept.ends.items) (pairs_of kept.cut_ends.items) closings
   pub unended : kept.ended ≡ false → OfEach closings (λ c. AreEndsOf tracing.setting c.marks [])
+  pub standing : AreStanding tracing.setting closings (length closings) kept.standing.items
 
 -- what collecting these closings makes of groups that kept what there was before
 pub record CollectsGroups (first : RaceGroups) (closings : List (Closing MachineState)) (now : RaceGroups) : Type 0 where

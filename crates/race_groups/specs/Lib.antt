@@ -1,4 +1,6 @@
 -- *internal*: The list of these files; the first word of each says whether it has to be believed.
 pub mod Found
+pub mod Shown
+pub mod Standing
 pub mod Inner
 pub mod Times

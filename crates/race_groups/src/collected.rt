@@ -1,22 +1,26 @@
 // The groups of closed slots.
 
-ghost use Rattle.std.specs.Prelude.{◌≡◌, ◌<◌, [], false, take, None, OnErr, OnOk, Some};
+ghost use Rattle.std.specs.Prelude.{◌≡◌, ◌<◌, ◌++◌, [], false, take, None, OnErr, OnOk, Some};
 ghost use Rattle.race_groups.specs.Inner.{GrowsBehind, KeepsGroups, TakesAll, TakesSlot, traced_by};
+ghost use Rattle.race_groups.specs.Standing.{standing_past};
 
 use crate::causes::Causes;
 use crate::ends::{put_ends, some_is_cut};
 use crate::group::{Group, Scope};
 use crate::groups::put_all;
+use crate::shown::{FoundAt, found_at};
+use crate::standing::{Standing, stand_past};
 use basis::NoMemory;
 use explore::{Collector, FoundMark, RankMarks};
-use racebook::{FoundInSlot, found_in};
+use racebook::FoundInSlot;
 use statebook::Limits;
 use std::alloc::Global;
 use vmachine::{Machine, MachineState};
 
 /// What is kept of closed slots: the groups of their differences; at most two of the states in which runs end, that aren't alike; at most
 /// one that is like the first of them, but for the values that a cut slot leaves; whether a run ended, and whether one was cut by the time
-/// limit; the time of the last slot of which a mark was seen, and the want of memory that was met meanwhile.
+/// limit; the time of the last slot of which a mark was seen, and the want of memory that was met meanwhile; and the marks whose runs
+/// have no slot yet since then.
 #[derive(Drop)]
 pub(crate) struct RaceGroups<'m> {
     pub(crate) causes: Causes<'m>,
@@ -29,6 +33,7 @@ pub(crate) struct RaceGroups<'m> {
     pub(crate) cut_runs: bool,
     pub(crate) seen: Option<u64>,
     pub(crate) refused: Option<NoMemory>,
+    pub(crate) standing: Vec<Standing>,
 }
 
 // How many differences a slot gave.
@@ -81,6 +86,7 @@ impl<'m> RaceGroups<'m> {
             cut_runs: false,
             seen: None,
             refused: None,
+            standing: Vec::new(alloc),
         }
     }
 
@@ -90,6 +96,7 @@ impl<'m> RaceGroups<'m> {
         ensures grows { GrowsBehind self.old self.new }
         ensures seen { self.new.seen ≡ self.old.seen }
         ensures refused { self.new.refused ≡ self.old.refused }
+        ensures standing { self.new.standing.items ≡ self.old.standing.items }
     {
         let FoundInSlot {
             races,
@@ -117,6 +124,7 @@ impl<'m> RaceGroups<'m> {
         ensures grows { GrowsBehind self.old self.new }
         ensures seen { self.new.seen ≡ self.old.seen }
         ensures refused { self.new.refused ≡ self.old.refused }
+        ensures standing { self.new.standing.items ≡ self.old.standing.items }
     {
         let is_cut = some_is_cut(self.causes.machine(), &found.ends);
         self.cut_runs = either(self.cut_runs, is_cut);
@@ -126,6 +134,20 @@ impl<'m> RaceGroups<'m> {
             return Ok(());
         }
         self.put_found(found)
+    }
+
+    // The same, and which marks stand past its time.
+    fn take_slot(&mut self, time: u64, at: FoundAt) -> Result<(), NoMemory>
+        ensures ok { OnOk result (TakesSlot time at.found self.old self.new) }
+        ensures stands { OnOk result (self.new.standing.items ≡ standing_past time (self.old.standing.items ++ at.going_on.items)) }
+        ensures err { OnErr result (self.new.standing.items ≡ self.old.standing.items) }
+        ensures grows { GrowsBehind self.old self.new }
+        ensures seen { self.new.seen ≡ self.old.seen }
+        ensures refused { self.new.refused ≡ self.old.refused }
+    {
+        let FoundAt { found, going_on } = at;
+        self.put_slot(time, found)?;
+        stand_past(&mut self.standing, time, going_on)
     }
 
     // No more than so many groups, ends and cut ends, as memory was refused.
@@ -139,6 +161,7 @@ impl<'m> RaceGroups<'m> {
         ensures cut { self.new.cut_runs ≡ self.old.cut_runs }
         ensures seen { self.new.seen ≡ self.old.seen }
         ensures refused { self.new.refused ≡ Some refused }
+        ensures standing { self.new.standing.items ≡ self.old.standing.items }
     {
         self.groups.truncate(groups);
         self.ends.truncate(ends);
@@ -160,11 +183,17 @@ impl<'m> Collector<MachineState> for RaceGroups<'m> {
         ensures err { OnErr result (StaysAs CollectsGroups self.old self.new) }
     {
         let marks = closed.marks.len();
-        let found = found_in(self.causes.alloc, self.causes.machine(), closed.marks)?;
+        let found = found_at(
+            self.causes.alloc,
+            self.causes.machine(),
+            closed.rank,
+            closed.marks,
+            &self.standing,
+        )?;
         let groups = self.groups.len();
         let ends = self.ends.len();
         let cut_ends = self.cut_ends.len();
-        match self.put_slot(closed.rank, found) {
+        match self.take_slot(closed.rank, found) {
             Ok(()) => {
                 self.seen = seen_by(self.seen, closed.rank, marks);
                 Ok(())

@@ -101,13 +101,13 @@ fn told_of(found: RaceGroups) -> Result<Told, NoMemory>
     })
 }
 
-/// Explores the machine's runs by time, and tells what two of them differ in at the end of a slot, by the pairs of statements that
-/// are to blame. Of each group it keeps the first difference; the rest is counted, and named as far as the scope says. So the memory
+/// Explores the machine's runs by time, and tells what two of them differ in at the end of a slot of one of them, by the pairs of
+/// statements that are to blame. A run whose next slot is later still shows the values of its last one, and no lines. Of each group it keeps the first difference; the rest is counted, and named as far as the scope says. So the memory
 /// that it takes grows with the causes and with the distinct logs that show differences; not with the differences of one log, nor
 /// with the length of runs that don't differ.
 ///
-/// However the search ended: wherever two runs within the limit of departures differ in a variable at the end of a slot, or in the
-/// lines that a slot printed, from the time `scope.from` on and up to the time `search.closed`, a group counts it; and if memory
+/// However the search ended: wherever two runs within the limit of departures show different values of a variable, or different lines,
+/// at the end of a slot, from the time `scope.from` on and up to the time `search.closed`, a group counts it; and if memory
 /// wasn't refused meanwhile (`refused`), groups count nothing else, and nothing twice. Where the search is exhausted, so it is at
 /// every time from `scope.from` on, and no run within the limit of departures ends later than `search.closed`, which is a time at
 /// which a run within the limits is at the end of a slot, or ends. Where it tells no group, at these times no two such runs differ

@@ -22,9 +22,9 @@ pub struct Scope {
 
 /// What runs differ in.
 pub enum Difference {
-    /// A variable has two or more values at the end of a slot.
+    /// A variable is shown with two or more values at the end of a slot.
     Values(Race),
-    /// A slot printed different lines.
+    /// Different lines are shown at the end of a slot.
     Lines(LineRace),
     /// Two states in which runs end, and which differ in time, cause, values, or the lines of the last slot. They are told only
     /// where no values and no lines differ.

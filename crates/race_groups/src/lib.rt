@@ -10,7 +10,9 @@ mod ends;
 mod find;
 mod group;
 mod groups;
+mod shown;
 mod slot_race;
+mod standing;
 
 pub use find::find_races;
 pub use group::{Difference, Group, Name, Races, Scope};

@@ -20,16 +20,24 @@ use std::alloc::Global;
 use vdesign::design::Design;
 use vmachine::Machine;
 
-/// What a page tells of a top module: of which runs, the machine that makes them, the files that they are of, the races, how many there are in
-/// words, and what is told of each in words, in their order.
+/// What a page tells of a top module: of which runs, the machine that makes them, the files that they are of, what was found, the places there
+/// of the findings that are told as races, how many these are in words, and what is told of each in words, in their order.
 #[derive(Clone, Copy)]
 pub struct TopRaces<'a> {
     pub setting: Setting<'a>,
     pub machine: &'a Machine,
     pub sources: &'a Sources<'a>,
-    pub races: &'a [Finding],
+    pub findings: &'a [Finding],
+    pub races: &'a [usize],
     pub summary: &'a [u8],
     pub words: &'a [Vec<u8>],
+}
+
+impl<'a> TopRaces<'a> {
+    // The finding of this place, and what is told of it as the race of this index.
+    fn race(&self, index: usize, place: usize) -> Option<(&'a Finding, &'a [u8])> {
+        Some((self.findings.get(place)?, self.words.get(index)?.as_slice()))
+    }
 }
 
 /// A page on its way: what was told so far, and of how many races. A run is followed for at most so many steps.
@@ -156,21 +164,20 @@ fn put_item(
 fn put_list(
     page: &mut Vec<u8>,
     first: u64,
-    words: &[Vec<u8>],
-    races: &[Finding],
-    design: &Design,
+    top: &TopRaces<'_>,
     files: &Files<'_>,
 ) -> Result<(), NoMemory> {
     put(page, "<nav aria-label=\"races\">\n<ul>\n")?;
-    for (place, finding) in races.iter().enumerate() {
-        if let Some(words) = words.get(place) {
-            let number = first.saturating_add(place as u64);
-            put_opening(page, races, place)?;
-            put_item(page, number, first_line(words).0, finding, design, files)?;
+    for (index, place) in top.races.iter().enumerate() {
+        if let Some((finding, words)) = top.race(index, *place) {
+            let number = first.saturating_add(index as u64);
+            put_opening(page, top.findings, *place)?;
+            let line = first_line(words).0;
+            put_item(page, number, line, finding, top.setting.design, files)?;
         }
     }
     put(page, "</ul>\n")?;
-    put_closing(page, races)?;
+    put_closing(page, top.findings)?;
     put(page, "</nav>\n")
 }
 
@@ -342,7 +349,7 @@ impl Page {
         }
         put_all(&mut self.text, &[Piece::Mark(NAMES), Piece::Mark(LEGEND)])?;
         let first = self.races.saturating_add(1);
-        put_list(&mut self.text, first, top.words, top.races, design, files)
+        put_list(&mut self.text, first, top, files)
     }
 
     /// What was found of a top module: a list of all races, and of each what is told of it in words, both statements in their files, the
@@ -350,8 +357,8 @@ impl Page {
     pub fn tell(&mut self, top: &TopRaces<'_>) -> Result<(), NoMemory> {
         let files = Files::new(self.alloc, top.sources)?;
         self.put_head(top, &files)?;
-        for (place, finding) in top.races.iter().enumerate() {
-            if let Some(words) = top.words.get(place) {
+        for (index, place) in top.races.iter().enumerate() {
+            if let Some((finding, words)) = top.race(index, *place) {
                 self.put_race(top, &files, finding, words)?;
             }
         }

@@ -9,11 +9,13 @@ mod json;
 mod sarif;
 mod sarif_place;
 mod summary;
+mod told;
 mod tops;
 mod waiver_file;
 mod whole;
 
 pub use summary::{Findings, KEPT, SearchSummary};
+pub use told::{ToldRace, told_races};
 pub use tops::{Format, Tops};
 pub use waiver_file::WaiverLines;
 pub use whole::{races_texts, summary_text};

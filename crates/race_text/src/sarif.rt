@@ -1,13 +1,16 @@
 // A SARIF 2.1.0 log, for code hosts (docs/FORMATS.md, "Races as SARIF").
 
 use crate::at_end::put_ends;
-use crate::sarif_place::{Locations, fingerprint, location_of_end, locations_of, put_deeds};
+use crate::sarif_place::{
+    Locations, fingerprint, location_of_end, locations_of, push_reader, put_deeds,
+};
 use crate::summary::{Findings, matched_at, put_matched, put_seen, put_top};
+use crate::told::{ToldRace, told_races};
 use basis::NoMemory;
 use finding_text::difference::{Subject, has_others, put_difference, put_others, rows_of};
 use finding_text::statements::named_instances;
 use finding_text::time::put_time;
-use race_findings::Statements;
+use race_findings::{Finding, Statements};
 use race_words::members::{Items, Members, document};
 use race_words::pieces::{Piece, put, put_all};
 use race_words::waivers::Waiver;
@@ -100,8 +103,19 @@ fn put_both(
     }
 }
 
-// What is said of a finding: what differs, what the two statements do, and what follows.
-fn finding_words(alloc: Global, subject: Subject<'_>) -> Result<Vec<u8>, NoMemory> {
+// `; 36 more statements race with the same write`, where it is so.
+fn put_beside_count(text: &mut Vec<u8>, beside: usize) -> Result<(), NoMemory> {
+    let words: &[u8] = match beside {
+        0 => return Ok(()),
+        1 => b" more statement races with the same write",
+        _ => b" more statements race with the same write",
+    };
+    let count = Piece::Number(beside as u64);
+    put_all(text, &[Piece::Bytes(b"; "), count, Piece::Bytes(words)])
+}
+
+// What is said of a race: what differs, what the two statements do, how many more read it, and what follows.
+fn race_words(alloc: Global, subject: Subject<'_>, beside: usize) -> Result<Vec<u8>, NoMemory> {
     let finding = subject.finding;
     let mut text = Vec::new(alloc);
     let rows = rows_of(alloc, subject)?;
@@ -109,6 +123,7 @@ fn finding_words(alloc: Global, subject: Subject<'_>) -> Result<Vec<u8>, NoMemor
     if let Some(statements) = &finding.statements {
         put_both(&mut text, subject, statements)?;
     }
+    put_beside_count(&mut text, beside)?;
     if has_others(finding) {
         put(&mut text, b"; ")?;
         put_others(&mut text, subject)?;
@@ -124,14 +139,40 @@ fn prints(alloc: Global, subject: Subject<'_>, statements: &Statements) -> Resul
     members.whole()
 }
 
-// The finding's places, and what it is known by from one run to the next; where no two statements are known, the place of the one that ends
+// The number of the first place of a finding that is told beside the race; those before are the race's own.
+const BESIDE: u64 = 5;
+
+// Puts the places of the statements of findings that are told beside the race.
+fn push_readers(
+    alloc: Global,
+    list: &mut Items,
+    findings: &Findings<'_>,
+    beside: &[usize],
+) -> Result<(), NoMemory> {
+    for (index, place) in beside.iter().enumerate() {
+        if let Some(finding) = findings.races.get(*place) {
+            let number = BESIDE.saturating_add(index as u64);
+            push_reader(alloc, list, findings.subject(finding), number)?;
+        }
+    }
+    Ok(())
+}
+
+// The race's places, and what it is known by from one run to the next; where no two statements are known, the place of the one that ends
 // the run, or the beginning of the first file.
-fn put_places(alloc: Global, members: &mut Members, subject: Subject<'_>) -> Result<(), NoMemory> {
+fn put_places(
+    alloc: Global,
+    members: &mut Members,
+    findings: &Findings<'_>,
+    subject: Subject<'_>,
+    beside: &[usize],
+) -> Result<(), NoMemory> {
     let Some(statements) = &subject.finding.statements else {
         members.try_value("locations", location_of_end(alloc, subject));
         return Ok(());
     };
-    let Locations { first, others } = locations_of(alloc, subject, statements)?;
+    let Locations { first, mut others } = locations_of(alloc, subject, statements)?;
+    push_readers(alloc, &mut others, findings, beside)?;
     members.try_value("locations", first.whole());
     members.try_value("relatedLocations", others.whole());
     members.try_value("partialFingerprints", prints(alloc, subject, statements));
@@ -156,23 +197,25 @@ fn suppressions(alloc: Global, waiver: Option<&Waiver<'_>>) -> Result<Value, NoM
     list.whole()
 }
 
-// What is said of a finding, as a message.
-fn finding_message(alloc: Global, subject: Subject<'_>) -> Result<Value, NoMemory> {
-    message(alloc, &finding_words(alloc, subject)?)
+// What is said of a race, as a message.
+fn race_message(alloc: Global, subject: Subject<'_>, beside: usize) -> Result<Value, NoMemory> {
+    message(alloc, &race_words(alloc, subject, beside)?)
 }
 
-// One result.
+// One result: the race that is told of this finding.
 fn result_of(
     alloc: Global,
-    subject: Subject<'_>,
-    waiver: Option<&Waiver<'_>>,
+    findings: &Findings<'_>,
+    finding: &Finding,
+    race: &ToldRace,
 ) -> Result<Value, NoMemory> {
+    let (subject, waiver) = (findings.subject(finding), findings.waiver(race.place));
     let mut members = Members::new(alloc);
     members.text("ruleId", RULE);
     members.number("ruleIndex", 0);
     members.text("level", b"warning");
-    members.try_value("message", finding_message(alloc, subject));
-    put_places(alloc, &mut members, subject)?;
+    members.try_value("message", race_message(alloc, subject, race.beside.len()));
+    put_places(alloc, &mut members, findings, subject, &race.beside)?;
     members.try_value("suppressions", suppressions(alloc, waiver));
     members.whole()
 }
@@ -183,9 +226,10 @@ pub fn push_results(
     list: &mut Items,
     findings: &Findings<'_>,
 ) -> Result<(), NoMemory> {
-    for (place, finding) in findings.races.iter().enumerate() {
-        let subject = findings.subject(finding);
-        list.value(result_of(alloc, subject, findings.waiver(place))?);
+    for race in &told_races(alloc, findings)? {
+        if let Some(finding) = findings.races.get(race.place) {
+            list.value(result_of(alloc, findings, finding, race)?);
+        }
     }
     Ok(())
 }

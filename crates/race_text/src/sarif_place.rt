@@ -3,7 +3,7 @@
 use crate::sarif::message;
 use basis::NoMemory;
 use finding_text::difference::Subject;
-use finding_text::statements::{SOURCE, put_instance, put_verbs};
+use finding_text::statements::{SOURCE, put_instance, put_verbs, roles_of};
 use race_findings::{RacingStatement, Statements, Touched};
 use race_words::members::{Items, Members};
 use race_words::pieces::{Piece, put, put_all};
@@ -197,6 +197,23 @@ pub fn locations_of(
     push_statement(alloc, &mut others, &mut ways, subject, other, touched, 3)?;
     others.append(ways);
     Ok(Locations { first, others })
+}
+
+/// Puts the place of the statement of a finding that only looks at what the other one writes, with what it does.
+pub fn push_reader(
+    alloc: Global,
+    list: &mut Items,
+    subject: Subject<'_>,
+    number: u64,
+) -> Result<(), NoMemory> {
+    let Some(statements) = &subject.finding.statements else {
+        return Ok(());
+    };
+    if let Some(roles) = roles_of(subject.setting.design, statements) {
+        let verbs = verbs(alloc, subject, roles.reader, &statements.touched)?;
+        push_location(alloc, list, subject, roles.reader.statement, number, &verbs);
+    }
+    Ok(())
 }
 
 // `late.v:3`, if the place of the action is known.

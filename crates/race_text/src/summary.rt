@@ -1,6 +1,7 @@
 // The last lines: how many races there are, what wasn't looked at, and what waivers matched.
 
 use crate::at_end::put_ends;
+use crate::told::ToldRace;
 use basis::NoMemory;
 use finding_text::difference::Subject;
 use finding_text::place::Sources;
@@ -106,19 +107,42 @@ fn are_whole(races: &[Finding]) -> bool {
     true
 }
 
-// `1 race.`; `3 races (12 differences), 1 waived.`
-fn put_counts(text: &mut Vec<u8>, races: &[Finding], waived: u64) -> Result<(), NoMemory> {
-    let (count, differences) = (races.len() as u64, difference_count(races));
-    put_count(text, count, b"race")?;
-    if differences > count {
-        let opening: &[u8] = if are_whole(races) {
-            b" ("
-        } else {
-            b" (at least "
-        };
-        let count = Piece::Count(differences, b"difference");
-        put_all(text, &[Piece::Bytes(opening), count, Piece::Bytes(b")")])?;
+// How many of the races are waived, as they are told.
+fn waived_count(findings: &Findings<'_>, races: &[ToldRace]) -> u64 {
+    let mut count = 0u64;
+    for race in races {
+        if findings.waiver(race.place).is_some() {
+            count = count.saturating_add(1);
+        }
     }
+    count
+}
+
+// ` (12 differences)`, where there are more than races.
+fn put_differences(text: &mut Vec<u8>, findings: &[Finding], races: u64) -> Result<(), NoMemory> {
+    let differences = difference_count(findings);
+    if differences <= races {
+        return Ok(());
+    }
+    let opening: &[u8] = if are_whole(findings) {
+        b" ("
+    } else {
+        b" (at least "
+    };
+    let count = Piece::Count(differences, b"difference");
+    put_all(text, &[Piece::Bytes(opening), count, Piece::Bytes(b")")])
+}
+
+// `1 race.`; `3 races (12 differences), 1 waived.`
+fn put_counts(
+    text: &mut Vec<u8>,
+    findings: &Findings<'_>,
+    races: &[ToldRace],
+) -> Result<(), NoMemory> {
+    let count = races.len() as u64;
+    put_count(text, count, b"race")?;
+    put_differences(text, findings.races, count)?;
+    let waived = waived_count(findings, races);
     if waived > 0 {
         put_all(
             text,
@@ -133,10 +157,13 @@ fn put_counts(text: &mut Vec<u8>, races: &[Finding], waived: u64) -> Result<(), 
 }
 
 // How many races there are; where there is none, and something wasn't looked at, so much is said.
-fn put_found(text: &mut Vec<u8>, findings: &Findings<'_>) -> Result<(), NoMemory> {
-    let races = findings.races;
+fn put_found(
+    text: &mut Vec<u8>,
+    findings: &Findings<'_>,
+    races: &[ToldRace],
+) -> Result<(), NoMemory> {
     if !races.is_empty() {
-        return put_counts(text, races, findings.waived.waived_count());
+        return put_counts(text, findings, races);
     }
     if findings.is_partial() {
         put(text, b"No race was found in what was looked at.")
@@ -287,10 +314,14 @@ fn put_ignored(text: &mut Vec<u8>, findings: &Findings<'_>) -> Result<(), NoMemo
 }
 
 /// What was passed over, how many races there are, and what wasn't looked at.
-pub fn put_summary(text: &mut Vec<u8>, findings: &Findings<'_>) -> Result<(), NoMemory> {
+pub fn put_summary(
+    text: &mut Vec<u8>,
+    findings: &Findings<'_>,
+    races: &[ToldRace],
+) -> Result<(), NoMemory> {
     put_ignored(text, findings)?;
     put_ends(text, findings)?;
-    put_found(text, findings)?;
+    put_found(text, findings, races)?;
     put_seen(text, findings)?;
     put_cost(text, findings.summary)
 }

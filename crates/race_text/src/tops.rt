@@ -1,6 +1,6 @@
 // What is told of top modules, one after another, in one format.
 
-use crate::json::{json_of, top_of};
+use crate::json::{json_of, last_line_of, put_cause_lines, seen_of, top_of};
 use crate::sarif::{push_results, push_unmatched, push_unseen, sarif_of};
 use crate::summary::{Findings, matched_at, put_top, put_waivers};
 use crate::whole::put_races;
@@ -17,11 +17,12 @@ use std::alloc::Global;
 pub enum Format {
     Text,
     Json,
+    JsonLines,
     Sarif,
 }
 
 /// What was told so far of top modules, in a format: a text; or values, one for each top module in JSON, one for each race in SARIF, and
-/// what SARIF notes beside them. And what each waiver matched in all of them.
+/// what SARIF notes beside them; or lines of JSON, and a value for each top module. And what each waiver matched in all of them.
 #[derive(Drop)]
 pub struct Tops<'w> {
     alloc: Global,
@@ -86,6 +87,11 @@ impl<'w> Tops<'w> {
                 self.values.try_value(top_of(self.alloc, findings));
                 Ok(())
             }
+            Format::JsonLines => {
+                put_cause_lines(self.alloc, &mut self.text, findings)?;
+                self.values.try_value(seen_of(self.alloc, findings));
+                Ok(())
+            }
             Format::Sarif => {
                 push_results(self.alloc, &mut self.values, findings)?;
                 push_unseen(
@@ -117,6 +123,11 @@ impl<'w> Tops<'w> {
                 shown_text(alloc, &text)
             }
             Format::Json => json_of(alloc, values, waivers, &matched),
+            Format::JsonLines => {
+                let last = last_line_of(alloc, values, waivers, &matched)?;
+                put(&mut text, &last)?;
+                Ok(text)
+            }
             Format::Sarif => {
                 push_unmatched(alloc, &mut notifications, waivers, &matched);
                 sarif_of(alloc, values, notifications, version)

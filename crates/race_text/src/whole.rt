@@ -2,13 +2,17 @@
 
 use crate::command::behind_log;
 use crate::summary::{Findings, NAMED, SearchSummary, put_summary};
+use crate::told::{ToldRace, told_races};
 use basis::NoMemory;
 use finding_text::difference::{
     Row, Subject, cause_words, has_others, put_difference, put_name, put_others, put_sides, rows_of,
 };
 use finding_text::name::name_of;
+use finding_text::scope::instance_of;
 use finding_text::start::{START, START_CURE};
-use finding_text::statements::{put_ending, put_statements};
+use finding_text::statements::{
+    Roles, put_ending, put_instance, put_place, put_statements, roles_of,
+};
 use finding_text::time::put_time;
 use race_findings::{Finding, Foremost, Name, is_first_at_start};
 use race_words::pieces::{Piece, put, put_all};
@@ -216,23 +220,120 @@ fn text_of(
     Ok(text)
 }
 
-/// What is told of each race of a top module, in their order.
-pub fn races_texts(alloc: Global, findings: &Findings<'_>) -> Result<Vec<Vec<u8>>, NoMemory> {
+// The two statements of a finding by what they do.
+fn roles_in<'a>(subject: Subject<'a>) -> Option<Roles<'a>> {
+    match &subject.finding.statements {
+        None => None,
+        Some(statements) => roles_of(subject.setting.design, statements),
+    }
+}
+
+// The other statement of a finding that is told beside a race, its instance, and what differs: `tb.v:12:9 in tb.u1: tb.u1.q is 0 or 1 at 5`.
+fn put_reader(alloc: Global, text: &mut Vec<u8>, subject: Subject<'_>) -> Result<(), NoMemory> {
+    put(text, b"        ")?;
+    if let Some(roles) = roles_in(subject) {
+        put_place(text, subject.sources, roles.reader.statement)?;
+        put_instance(
+            text,
+            instance_of(subject.setting.design, roles.reader.statement),
+        )?;
+        put(text, b": ")?;
+    }
+    put_difference(text, subject, &rows_of(alloc, subject)?)?;
+    put(text, b"\n")
+}
+
+// How many findings are told beside the race.
+fn put_beside_count(text: &mut Vec<u8>, count: usize) -> Result<(), NoMemory> {
+    let words: &[u8] = if count == 1 {
+        b" more statement races with the same write:\n"
+    } else {
+        b" more statements race with the same write:\n"
+    };
+    put_all(
+        text,
+        &[
+            Piece::Bytes(b"    and "),
+            Piece::Number(count as u64),
+            Piece::Bytes(words),
+        ],
+    )
+}
+
+// That not all of so many findings beside the race are shown, where it is so.
+fn put_rest(text: &mut Vec<u8>, count: usize) -> Result<(), NoMemory> {
+    if count <= NAMED {
+        return Ok(());
+    }
+    let rest = Piece::Number(count.saturating_sub(NAMED) as u64);
+    put_all(
+        text,
+        &[
+            Piece::Bytes(b"        and "),
+            rest,
+            Piece::Bytes(b" more; --all tells each as a race\n"),
+        ],
+    )
+}
+
+// The findings that are told beside a race: the first ones, and how many there are.
+fn put_beside(
+    alloc: Global,
+    text: &mut Vec<u8>,
+    findings: &Findings<'_>,
+    beside: &[usize],
+) -> Result<(), NoMemory> {
+    if beside.is_empty() {
+        return Ok(());
+    }
+    put_beside_count(text, beside.len())?;
+    for place in beside.iter().take(NAMED) {
+        if let Some(finding) = findings.races.get(*place) {
+            put_reader(alloc, text, findings.subject(finding))?;
+        }
+    }
+    put_rest(text, beside.len())
+}
+
+// What is told of the race of this number, from 0, with what is told beside it.
+fn race_text(
+    alloc: Global,
+    findings: &Findings<'_>,
+    race: &ToldRace,
+    number: usize,
+    behind: &[u8],
+) -> Result<Vec<u8>, NoMemory> {
+    let Some(finding) = findings.races.get(race.place) else {
+        return Ok(Vec::new(alloc));
+    };
+    let (subject, waiver) = (findings.subject(finding), findings.waiver(race.place));
+    let mut text = text_of(alloc, *findings.summary, waiver, subject, number, behind)?;
+    put_beside(alloc, &mut text, findings, &race.beside)?;
+    Ok(text)
+}
+
+/// What is told of each of these races of a top module, in their order.
+pub fn races_texts(
+    alloc: Global,
+    findings: &Findings<'_>,
+    races: &[ToldRace],
+) -> Result<Vec<Vec<u8>>, NoMemory> {
     let behind = behind_log(alloc, findings)?;
     let mut texts = Vec::new(alloc);
-    for (place, finding) in findings.races.iter().enumerate() {
-        let subject = findings.subject(finding);
-        let waiver = findings.waiver(place);
-        let summary = *findings.summary;
-        texts.push(text_of(alloc, summary, waiver, subject, place, &behind)?)?;
+    for (number, race) in races.iter().enumerate() {
+        texts.push(race_text(alloc, findings, race, number, &behind)?)?;
     }
     Ok(texts)
 }
 
 /// How many races there are, and what wasn't looked at.
-pub fn summary_text(alloc: Global, findings: &Findings<'_>) -> Result<Vec<u8>, NoMemory> {
+pub fn summary_text(
+    alloc: Global,
+    findings: &Findings<'_>,
+    races: &[ToldRace],
+) -> Result<Vec<u8>, NoMemory> {
     let mut text = Vec::new(alloc);
-    put_summary(&mut text, findings)?;
+    put_summary(&mut text, findings, races)?;
     Ok(text)
 }
 
@@ -254,17 +355,32 @@ fn put_closing(text: &mut Vec<u8>, races: &[Finding]) -> Result<(), NoMemory> {
     }
 }
 
-/// The races of a top module, each by its cause, and what wasn't looked at. Those that show at time 0 stand in a part of their own.
+// Puts what is told of a race, behind what stands before it.
+fn put_race(
+    text: &mut Vec<u8>,
+    findings: &[Finding],
+    race: &ToldRace,
+    words: Option<&Vec<u8>>,
+) -> Result<(), NoMemory> {
+    put_opening(text, findings, race.place)?;
+    match words {
+        None => Ok(()),
+        Some(words) => put(text, words),
+    }
+}
+
+/// The races of a top module, each by the statement that writes, and what wasn't looked at. Those that show at time 0 stand in a part of their
+/// own.
 pub fn put_races(
     alloc: Global,
     text: &mut Vec<u8>,
     findings: &Findings<'_>,
 ) -> Result<(), NoMemory> {
-    let texts = races_texts(alloc, findings)?;
-    for (place, race) in texts.iter().enumerate() {
-        put_opening(text, findings.races, place)?;
-        put(text, race)?;
+    let races = told_races(alloc, findings)?;
+    let texts = races_texts(alloc, findings, &races)?;
+    for (number, race) in races.iter().enumerate() {
+        put_race(text, findings.races, race, texts.get(number))?;
     }
     put_closing(text, findings.races)?;
-    put_summary(text, findings)
+    put_summary(text, findings, &races)
 }

@@ -76,7 +76,7 @@ mark_of setting t = refl
 
 -- ---- all slot states
 
-below_next : (i n : ℕ) → i < n + 1 → (i < n) ⊎ (i ≡ n)
+pub below_next : (i n : ℕ) → i < n + 1 → (i < n) ⊎ (i ≡ n)
 below_next i n lt = elim (cases_lt i n) [
   | inl before ↦ inl before
   | inr from ↦ inr (omega arith)
@@ -360,7 +360,7 @@ itself : (v : Vector) → IsTextBefore v v → ⊥
 itself v (inl lt) = omega arith
 itself v (inr same) = let lt = same.1 in omega arith
 
-not_itself : (v w : Vector) → IsTextBefore v w → v ≡ w → ⊥
+pub not_itself : (v w : Vector) → IsTextBefore v w → v ≡ w → ⊥
 not_itself v w before e = itself v (subst (λ (x : Vector). IsTextBefore v x) (sym e) before)
 
 pub races_found : (setting : Setting) (limits : Limits) (marks : List (MachineState × List (ℕ × ℕ))) (gs : List SlotState) (races : List Race) → Alike setting → AllStand setting → RunThere setting →

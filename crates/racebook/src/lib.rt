@@ -16,9 +16,10 @@ mod slots;
 mod timed_findings;
 mod values;
 
-pub use book::{line_races, races};
+pub use book::{line_races, line_races_in, races, races_in};
 pub use in_time::explore_in_time;
 pub use line_race::{LineRace, Side};
 pub use race::{Race, Witness};
+pub use slot_state::{SlotState, slot_state_of, states_of_marks};
 pub use slots::{FoundInSlot, found_in};
 pub use timed_findings::TimedFindings;

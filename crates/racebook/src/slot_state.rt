@@ -22,8 +22,8 @@ pub struct SlotState<'f> {
     pub log: &'f Log,
 }
 
-// What is seen of one mark. A state of another machine, with other variables, is passed over.
-fn slot_state_of<'f>(
+/// What is seen of one mark. A state of another machine, with other variables, is passed over.
+pub fn slot_state_of<'f>(
     machine: &Machine,
     machine_state: &'f MachineState,
     log: &'f Log,

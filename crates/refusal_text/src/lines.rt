@@ -12,6 +12,9 @@ const BEFORE: usize = 80;
 
 const WIDTH: usize = 116;
 
+// How far before a column parentheses and strings are looked at: so what is told of a long line costs no more where it has more.
+const LOOKED: usize = 4096;
+
 /// The files, by their names and texts, and where the lines of each begin (`line_starts`).
 #[derive(Clone, Copy)]
 pub struct Files<'a> {
@@ -140,14 +143,22 @@ fn statement_end(line: &[u8], column: usize) -> usize {
     line.len()
 }
 
+// What of the line is looked at, and where the column stands in that.
+fn looked_at(line: &[u8], column: usize) -> (&[u8], usize) {
+    let left = column.saturating_sub(LOOKED);
+    let right = column.saturating_add(WIDTH).saturating_add(1);
+    (from(front(line, right), left), column.saturating_sub(left))
+}
+
 /// Behind what is told the line up to the end of the statement at the column, from 0, and below it a caret under that. Of a long line
 /// there is what stands round it.
 pub(crate) fn put_pointed(text: &mut Text, line: &[u8], column: usize) {
-    let line = front(line, statement_end(line, column));
-    let shown = from(line, column.saturating_sub(BEFORE));
+    let (near, at) = looked_at(line, column);
+    let near = front(near, statement_end(near, at));
+    let shown = from(near, at.saturating_sub(BEFORE));
     text.put_all(&[b"\n    "]);
     text.put_letters(front(shown, whole_letters(shown, WIDTH)));
     text.put_all(&[b"\n    "]);
-    text.put_steps(front(shown, column.min(BEFORE)));
+    text.put_steps(front(shown, at.min(BEFORE)));
     text.put_all(&[b"^\n"]);
 }

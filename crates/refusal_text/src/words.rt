@@ -1,5 +1,7 @@
 // The words of a text, looked at from one of them.
 
+use crate::lines::from;
+use memchr::memchr;
 use vlex::{TokenKind, Tokens};
 use vsrc::Place;
 pub(crate) use vwords::words::is_name;
@@ -25,12 +27,33 @@ pub(crate) fn is(word: &[u8], text: &str) -> bool {
     word == text.as_bytes()
 }
 
-/// Whether the word is one of these, which blanks separate.
+// Whether these words, which blanks separate, have this one at the place.
+fn stands_at(words: &[u8], at: usize, word: &[u8]) -> bool {
+    let begins = match at.checked_sub(1) {
+        None => true,
+        Some(before) => words.get(before).copied() == Some(b' '),
+    };
+    let rest = from(words, at);
+    begins && rest.starts_with(word) && rest.get(word.len()).copied().unwrap_or(b' ') == b' '
+}
+
+/// Whether the word is one of these, which blanks separate. It is asked some forty times of each word of a text: only where its first letter
+/// stands more is looked at.
 pub(crate) fn is_one_of(word: &[u8], words: &str) -> bool {
-    for one in words.split(' ') {
-        if is(word, one) {
+    let Some(first) = word.first() else {
+        return false;
+    };
+    let all = words.as_bytes();
+    let mut start = 0usize;
+    for _ in 0..all.len() {
+        let Some(more) = memchr(*first, from(all, start)) else {
+            return false;
+        };
+        let at = start.saturating_add(more);
+        if stands_at(all, at, word) {
             return true;
         }
+        start = at.saturating_add(1);
     }
     false
 }

@@ -18,7 +18,8 @@ use race_findings::{Finding, Reach};
 use race_groups::Scope;
 use race_page::{Page, TopRaces};
 use race_text::{
-    Findings, Format, KEPT, SearchSummary, Tops, WaiverLines, races_texts, summary_text,
+    Findings, Format, KEPT, SearchSummary, ToldRace, Tops, WaiverLines, races_texts, summary_text,
+    told_races,
 };
 use race_waivers::Waived;
 use race_words::{Waiver, WaiverFault, WaiverScope, read_waivers};
@@ -42,6 +43,7 @@ const NO_LIMIT: Allowance = Allowance {
 fn format_of(word: Option<&str>) -> Format {
     match word {
         Some("json") => Format::Json,
+        Some("jsonl") => Format::JsonLines,
         Some("sarif") => Format::Sarif,
         _ => Format::Text,
     }
@@ -278,6 +280,15 @@ fn put_dump(
     Ok(())
 }
 
+// The places of the findings that the races are told of.
+fn places_of_races(alloc: Global, races: &[ToldRace]) -> Result<Vec<usize>, NoMemory> {
+    let mut places = Vec::new(alloc);
+    for race in races {
+        places.push(race.place)?;
+    }
+    Ok(places)
+}
+
 // Puts what was found of a top module onto the page.
 fn put_page(
     alloc: Global,
@@ -285,13 +296,15 @@ fn put_page(
     machine: &Machine,
     findings: &Findings<'_>,
 ) -> Result<(), NoMemory> {
-    let summary = summary_text(alloc, findings)?;
-    let words = races_texts(alloc, findings)?;
+    let races = told_races(alloc, findings)?;
+    let summary = summary_text(alloc, findings, &races)?;
+    let words = races_texts(alloc, findings, &races)?;
     page.tell(&TopRaces {
         setting: findings.setting,
         machine,
         sources: findings.sources,
-        races: findings.races,
+        findings: findings.races,
+        races: &places_of_races(alloc, &races)?,
         summary: &summary,
         words: &words,
     })

@@ -1,7 +1,6 @@
 use Rattle.std.proofs.Common.{◌≡◌, ℕ, arith, sym, ap, subst, ◌∙◌, le_refl}
 use Rattle.vdesign.specs.Design.{Design}
 use Rattle.vmodel.specs.Step.{next}
-use Rattle.vmodel.specs.Run.{Setting}
 use Rattle.cause.specs.Checkpoints.{IsCheckpointOf}
 use Rattle.footprints.specs.Keeping.{Keeps}
 use Rattle.footprints.specs.Visits.{seen_by}
@@ -42,7 +41,7 @@ loop-step-preserved c =
     let design_is : c.design-design.result.now ≡ setting.design = c.design-design.ensures in
     let found = sym c.in-Some.is ∙ c.choice.ensures.exact in
     let is = c.in_ok-take.ensures.state ∙ ap (λ (d : Design). (next d so.state index).state) design_is in
-    let sees = subst (λ (d : Design). Keeps c.take.new.state.queue.time c.take.new.seen (seen_by d c.args.to so.step so.state choice (next d so.state index).effect so.seen)) design_is c.in_ok-take.ensures.seen in
+    let sees = subst (λ (d : Design). Keeps c.take.new.state.queue.time c.take.new.seen (seen_by d c.args.to so.step so.state choice (next d so.state index) so.seen)) design_is c.in_ok-take.ensures.seen in
     record {
       so = goes_on setting members so.rest.now taken.result.1.now c.args.to so.step index so.state c.take.new.state so.seen c.take.new.seen choice so.invariant.so
           taken.ensures.next taken.ensures.lawful found c.loop-step-test.true is sees c.in_ok-take.ensures.few;

@@ -1,7 +1,5 @@
-use Rattle.std.proofs.Common.{◌≡◌, Option, Some, None, IfOk, IfNone, arith, ap, ◌∙◌}
+use Rattle.std.proofs.Common.{Option, Some, None, IfNone, arith}
 use Rattle.std.proofs.lemmas.Result.{IfOk-weaker}
-use Rattle.vdesign.specs.Design.{Design}
-use Rattle.vmodel.specs.Run.{Setting}
 use Rattle.cause.specs.Causes.{HasNoCause}
 use Rattle.footprints.specs.Swaps.{HasNoSwap}
 use Rattle.cause.specs.declared.cause.Cause.{Cause}
@@ -23,10 +21,8 @@ visits_of_slot-requires-2-clause-start c =
 pub returns-clause-cause : goal.returns-clause-cause
 returns-clause-cause c =
     let setting = c.args.machine.now in
-    let actions_are : c.deref.result.now ≡ setting.design.actions =
-    c.deref.ensures.value ∙ ap (λ (d : Design). d.actions) (c.behind-machine.view_is ∙ c.design.ensures) in
-    caused setting c.args.members.now c.parent_of-parent_log.result.now c.args.step c.deref.result.now c.in-Some.run' c.in-Some-2.parent c.cause_in.result
-    c.requires.named c.parent_of-parent_log.ensures actions_are
+    caused setting c.args.members.now c.parent_of-parent_log.result.now c.args.step c.design.result.now c.in-Some.run' c.in-Some-2.parent c.cause_in.result
+    c.requires.named c.parent_of-parent_log.ensures c.design.ensures
     (where_some _ c.in-Some.is c.in_ok-run.ensures.earlier, where_some _ c.in-Some.is c.in_ok-run.ensures.visits)
     (where_some _ c.in-Some-2.is c.in_ok-parent.ensures.earlier, where_some _ c.in-Some-2.is c.in_ok-parent.ensures.visits) c.cause_in.ensures.some
 

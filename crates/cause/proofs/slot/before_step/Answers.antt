@@ -1,7 +1,6 @@
 use Rattle.std.proofs.Common.{◌≡◌, arith, sym, ap, subst, ◌∙◌, le_refl}
 use Rattle.vdesign.specs.Design.{Design}
 use Rattle.vmodel.specs.Step.{next}
-use Rattle.vmodel.specs.Run.{Setting}
 use Rattle.footprints.specs.Keeping.{Keeps}
 use Rattle.footprints.specs.Visits.{seen_by}
 use Rattle.cause.proofs.SlotLemmas.{begins, begun, begin_on, ended, so_on, stands_there}
@@ -25,7 +24,7 @@ loop-step-preserved c =
     let design_is : c.design-design.result.now ≡ c.args.machine.now.design = c.design-design.ensures in
     let found = sym c.in-Some.is ∙ c.choice.ensures.exact in
     let is = c.in_ok-take.ensures.state ∙ ap (λ (d : Design). (next d so.state index).state) design_is in
-    let sees = subst (λ (d : Design). Keeps c.take.new.state.queue.time c.take.new.seen (seen_by d so.begin so.step so.state choice (next d so.state index).effect so.seen)) design_is c.in_ok-take.ensures.seen in
+    let sees = subst (λ (d : Design). Keeps c.take.new.state.queue.time c.take.new.seen (seen_by d so.begin so.step so.state choice (next d so.state index) so.seen)) design_is c.in_ok-take.ensures.seen in
     record {
       begin = begin_on c.args.machine.now c.args.members.now so.rest.now taken.result.1.now c.args.from so.begin so.step index so.state c.take.new.state so.seen c.take.new.seen
           so.invariant.begin so.invariant.so taken.ensures.next choice found (omega (arith, c.loop-step-test.true)) taken.ensures.lawful is sees c.in_ok-take.ensures.few

@@ -1,4 +1,4 @@
-use Rattle.std.proofs.Common.{◌≡◌, ℕ, List, Some, sym, subst, add-one, take}
+use Rattle.std.proofs.Common.{ℕ, List, sym, subst, add-one, take}
 use Rattle.std.proofs.lemmas.Option.{slice_get-get_or}
 use Rattle.sched_core.specs.Rules.{NamesBelow}
 use Rattle.sched_core.proofs.RunLemmas.{IsLeft}

@@ -1,7 +1,6 @@
 use Rattle.std.proofs.Common.{◌≡◌, arith, sym, ap, subst, ◌∙◌, le_refl}
 use Rattle.vdesign.specs.Design.{Design}
 use Rattle.vmodel.specs.Step.{next}
-use Rattle.vmodel.specs.Run.{Setting}
 use Rattle.footprints.specs.Keeping.{Keeps}
 use Rattle.footprints.specs.Visits.{seen_by}
 use Rattle.cause.proofs.SlotLemmas.{seen_on, stands_so, where_none, where_some}
@@ -30,6 +29,6 @@ loop-step-preserved c =
       so = seen_on c.args.machine.now c.args.members.now c.args.steps c.args.from so.rest.now so.step so.state so.seen so.invariant.so index taken.result.1.now
           taken.ensures.next choice c.take.new.state c.take.new.seen (sym going.0 ∙ c.choice.ensures.exact) (omega (arith, c.loop-step-test.true))
           taken.ensures.lawful (λ le. going.1) (c.in_ok-take.ensures.state ∙ ap (λ (d : Design). (next d so.state index).state) design_is)
-          (subst (λ (d : Design). Keeps c.take.new.state.queue.time c.take.new.seen (seen_by d c.args.from so.step so.state choice (next d so.state index).effect so.seen)) design_is c.in_ok-take.ensures.seen)
+          (subst (λ (d : Design). Keeps c.take.new.state.queue.time c.take.new.seen (seen_by d c.args.from so.step so.state choice (next d so.state index) so.seen)) design_is c.in_ok-take.ensures.seen)
           c.in_ok-take.ensures.few;
     }

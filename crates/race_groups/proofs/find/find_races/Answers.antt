@@ -21,7 +21,7 @@ returns g c =
     let keeps = kept_so setting c.args.limits.now scope c.new-found.result kept findings c.new-found.ensures.traced
     c.new-found.ensures.scope c.new-found.ensures.none handed in
     let t = is_told setting (law.same setting) (law.stands setting) (law.runs setting) (law.runs_back setting) (law.mark setting)
-    (c.run_law.ensures.values setting) (law.rank setting)
+    (c.run_law.ensures.values setting) (law.rank setting) (law.width setting) (law.after setting) (c.run_law.ensures.one_way setting)
     c.args.limits.now scope kept findings groups tells hands keeps.cuts keeps.unended told c.in_ok-groups.ensures.cut_ends in
     record {
       cause = t.cause;

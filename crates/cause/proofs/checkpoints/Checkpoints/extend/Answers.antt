@@ -29,7 +29,7 @@ put_if_begun-requires c = λ ends.
     (begins_behind setting [] [] [] c.args.to so.step 0 so.state c.take.new.state so.seen c.take.new.seen choice so.invariant.there (default_at_none so.step [] refl) tt
     (sym c.in-Some.is ∙ c.choice.ensures.exact) (omega (arith, c.loop-step-test.true))
     (c.in_ok-take.ensures.state ∙ ap (λ (d : Design). (next d so.state 0).state) design_is)
-    (subst (λ (d : Design). Keeps c.take.new.state.queue.time c.take.new.seen (seen_by d c.args.to so.step so.state choice (next d so.state 0).effect so.seen)) design_is c.in_ok-take.ensures.seen)
+    (subst (λ (d : Design). Keeps c.take.new.state.queue.time c.take.new.seen (seen_by d c.args.to so.step so.state choice (next d so.state 0) so.seen)) design_is c.in_ok-take.ensures.seen)
     c.in_ok-take.ensures.few ends)
 
 pub loop-step-preserved : goal.loop-step-preserved
@@ -43,6 +43,6 @@ loop-step-preserved c =
       there = goes_on setting [] [] [] c.args.to so.step 0 so.state c.take.new.state so.seen c.take.new.seen choice so.invariant.there (default_at_none so.step [] refl) tt
           (sym c.in-Some.is ∙ c.choice.ensures.exact) (omega (arith, c.loop-step-test.true))
           (c.in_ok-take.ensures.state ∙ ap (λ (d : Design). (next d so.state 0).state) design_is)
-          (subst (λ (d : Design). Keeps c.take.new.state.queue.time c.take.new.seen (seen_by d c.args.to so.step so.state choice (next d so.state 0).effect so.seen)) design_is c.in_ok-take.ensures.seen)
+          (subst (λ (d : Design). Keeps c.take.new.state.queue.time c.take.new.seen (seen_by d c.args.to so.step so.state choice (next d so.state 0) so.seen)) design_is c.in_ok-take.ensures.seen)
           c.in_ok-take.ensures.few;
     }

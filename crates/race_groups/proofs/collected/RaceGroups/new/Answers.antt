@@ -2,6 +2,7 @@ use Rattle.std.proofs.Common.{ap}
 use Rattle.explore.specs.Ranked.{pairs_of}
 use Rattle.race_groups.proofs.FoundLemmas.{tracing_in}
 use Rattle.race_groups.proofs.KeptLemmas.{kept_none, no_cuts}
+use Rattle.race_groups.proofs.StandingLemmas.{none_stand}
 use Rattle.race_groups.proofs.collected.RaceGroups.new.Goals as goal
 
 pub returns-clause-none : goal.returns-clause-none
@@ -10,4 +11,5 @@ returns-clause-none c = record {
       _ c.new-2.ensures.items (ap pairs_of c.new-3.ensures.items);
   cuts = no_cuts c.args.machine.now c.args.scope.now.from _ _ (ap pairs_of c.new-3.ensures.items) (ap pairs_of c.new-4.ensures.items);
   unended = λ e i c at. absurd (cc);
+  standing = none_stand c.args.machine.now _ c.new-5.ensures.items;
 }

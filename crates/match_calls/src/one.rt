@@ -1,0 +1,60 @@
+// One dump, compared with the runs of a machine.
+
+use crate::searching::{OneTried, find_one};
+use crate::told::{facts_of, found_of, scene_of};
+use command_line::{MatchWords, Request};
+use finding_text::Sources;
+use match_text::{Found, match_json, match_words};
+use matching::Matching;
+use program_base::{Stop, write_out};
+use search_meter::Meter;
+use shown_text::shown_text;
+use std::process::ExitCode;
+use vmachine::Machine;
+use vrace::Budget;
+
+// The exit status.
+fn code_of(one: &OneTried<'_>) -> ExitCode {
+    if one.reference.compared_count() == 0 {
+        return ExitCode::from(3);
+    }
+    match &one.tried.answer {
+        Matching::Explained(_) => ExitCode::SUCCESS,
+        Matching::Unexplained(_) if one.tried.beyond.is_none() => ExitCode::from(1),
+        _ => ExitCode::from(3),
+    }
+}
+
+// Writes what was found, in the format that is asked for.
+fn write_found(rt: &HostRuntime, found: &Found<'_>, format: Option<&str>) -> Result<(), Stop> {
+    let text = match format {
+        Some("json") => match_json(rt.alloc(), found)?,
+        _ => shown_text(rt.alloc(), &match_words(rt.alloc(), found)?)?,
+    };
+    write_out(rt, &text)
+}
+
+/// Compares the dump with the runs of the machine, and tells what was found.
+pub(crate) fn tell_one<'a>(
+    rt: &HostRuntime,
+    machine: &'a Machine,
+    sources: &'a Sources<'a>,
+    request: &Request<'_>,
+    words: &'a MatchWords<'a>,
+) -> Result<ExitCode, Stop> {
+    let mut meter = Meter::of_slots(rt, words.allowance);
+    let one = find_one(rt, machine, request, words, words.first, &mut meter)?;
+    let facts = facts_of(rt.alloc(), machine, &one.tried, &one.reference)?;
+    let scene = scene_of(machine, sources, request, words, meter.spent());
+    let last = one.reference.time();
+    let found = found_of(
+        scene,
+        words.first.dump,
+        &one.reference,
+        &one.tried,
+        &facts,
+        last,
+    );
+    write_found(rt, &found, words.format)?;
+    Ok(code_of(&one))
+}

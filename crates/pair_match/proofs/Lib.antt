@@ -1,0 +1,3 @@
+mod TimeLemmas
+mod PairLemmas
+mod PartingLemmas
