@@ -1,5 +1,5 @@
 -- The walk to the end of a text, and what files are expanded to.
-use Rattle.std.proofs.Common.{◌≡◌, ℕ, zero, suc, ◌+◌, ◌<◌, ◌≤◌, cond, List, [], ◌∷◌, slice_get, length, drop, map, unwrap_or, Some, None, Ok, Err, refl, sym, ◌∙◌, ap, arith}
+use Rattle.std.proofs.Common.{◌≡◌, ℕ, zero, suc, ◌+◌, ◌<◌, ◌≤◌, cond, List, [], ◌∷◌, slice_get, length, drop, map, is_some, unwrap_or, Some, None, Ok, Err, refl, sym, ◌∙◌, ap, arith}
 use Rattle.std.proofs.lemmas.Bool.{lt-ltb, le-ltb}
 use Rattle.basis.specs.declared.memory.OrMemory.{OrMemory}
 use Rattle.basis.specs.declared.memory.OrMemory.TheVariants.{Fault, Memory}
@@ -96,9 +96,9 @@ because_so P Q (Memory m) so h = tt
 
 pub source_is : (files : List (List ℕ)) (state : State) (lines : LinesOf) (source : Source) (end : ℕ) → lines.borders ≡ borders_of files → lines.feeds ≡ feeds_of (join_files files)
     → end ≡ length (join_files files) → source.text ≡ state.made.text → source.places ≡ map (place_by lines.borders lines.feeds) state.made.origins
-    → source.end ≡ place_by lines.borders lines.feeds end → source.timescale ≡ unwrap_or state.timescale usual_timescale → source_of files state ≡ source
-source_is files state lines source end borders feeds whole text places ends timescale =
+    → source.end ≡ place_by lines.borders lines.feeds end → source.timescale ≡ unwrap_or state.timescale usual_timescale → source.timed ≡ is_some state.timescale → source_of files state ≡ source
+source_is files state lines source end borders feeds whole text places ends timescale timed =
     let by : place_by lines.borders lines.feeds ≡ place_in files = λ i. place_by (borders i) (feeds i) in
     let all : source.places ≡ map (place_in files) state.made.origins = places ∙ ap (λ f. map f state.made.origins) by in
     let last : source.end ≡ place_in files (length (join_files files)) = ends ∙ ap (λ f. f end) by ∙ ap (place_in files) whole in
-    sym (λ i. record { text = text i; places = all i; end = last i; timescale = timescale i })
+    sym (λ i. record { text = text i; places = all i; end = last i; timescale = timescale i; timed = timed i })

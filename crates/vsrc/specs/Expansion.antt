@@ -37,7 +37,7 @@
 -- differs is E114; without one it is 1 ns and 1 ns.
 --
 -- So there is one expansion of files, or one fault: `expansion` is a function.
-use Rattle.std.specs.Prelude.{ℕ, List, [], ◌∷◌, length, map, Option, None, Some, unwrap_or, Result, Ok, Err}
+use Rattle.std.specs.Prelude.{ℕ, List, [], ◌∷◌, length, map, Option, None, Some, is_some, unwrap_or, Result, Ok, Err}
 use Rattle.basis.specs.declared.timescale.Timescale.{Timescale}
 use Rattle.vsrc.specs.declared.expanded.Place.{Place}
 use Rattle.vsrc.specs.declared.conditionals.Open.{Open}
@@ -77,6 +77,7 @@ source_of files state = record {
   places = map (place_in files) state.made.origins;
   end = place_in files (length (join_files files));
   timescale = unwrap_or state.timescale usual_timescale;
+  timed = is_some state.timescale;
 }
 
 -- the walk's result, told by files and lines

@@ -1,5 +1,5 @@
 -- *product rule*: The text that files make together, and the file, line and column of each place in it.
-use Rattle.std.specs.Prelude.{ℕ, ◌+◌, ◌-◌, List, [], ◌∷◌, Vec, length, map, count_by, nat_lt, if◌then◌else◌, Option, None, Some}
+use Rattle.std.specs.Prelude.{ℕ, ◌+◌, ◌-◌, Bool, List, [], ◌∷◌, Vec, length, map, count_by, nat_lt, if◌then◌else◌, Option, None, Some}
 use Rattle.std.specs.List.{join_by}
 use Rattle.std.specs.List.{slice_index_or}
 use Rattle.memchr.specs.Find.{is_byte, places}
@@ -76,6 +76,8 @@ pub record Source : Type 0 where
   pub places : List Place
   pub end : Place
   pub timescale : Timescale
+  -- whether a `timescale stands in the files; without one the timescale is the usual one
+  pub timed : Bool
 
 -- the place of the byte at `at`, and at the text's length that of its end
 abbrev pub place_of : Source → ℕ → Place

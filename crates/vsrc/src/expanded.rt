@@ -1,6 +1,7 @@
 // Text with the place of each of its bytes in the files.
 
-ghost use Rattle.std.specs.Prelude.{◌≡◌, ◌≤◌, length, map};
+ghost use Rattle.std.specs.Prelude.{◌≡◌, ◌≤◌, is_some, length, map, unwrap_or};
+ghost use Rattle.basis.specs.Timescales.{usual_timescale};
 ghost use Rattle.std.specs.List.Sorted.{IsNonDecreasing};
 ghost use Rattle.vsrc.specs.Source.{count_below, file_start, place_by, text_limit};
 
@@ -24,6 +25,7 @@ pub struct Expanded {
     end: usize,
     lines: Lines,
     timescale: Timescale,
+    timed: bool,
 }
 
 /// Where in the joined files the lines of the files begin.
@@ -81,6 +83,7 @@ impl Model for Expanded {
       places = map (place_by e.lines.borders e.lines.feeds) e.origins.items;
       end = place_by e.lines.borders e.lines.feeds e.end;
       timescale = e.timescale;
+      timed = e.timed;
     } };
 
     ghost invariant = { λ e. length e.text.items ≤ text_limit };
@@ -94,20 +97,22 @@ impl Expanded {
         origins: Vec<u32>,
         end: usize,
         lines: Lines,
-        timescale: Timescale,
+        timescale: Option<Timescale>,
     ) -> Expanded
         requires { length text.items ≤ text_limit }
         ensures text { result.text ≡ text.items }
         ensures places { result.places ≡ map (place_by lines.borders lines.feeds) origins.items }
         ensures end { result.end ≡ place_by lines.borders lines.feeds end }
-        ensures timescale { result.timescale ≡ timescale }
+        ensures timescale { result.timescale ≡ unwrap_or timescale usual_timescale }
+        ensures timed { result.timed ≡ is_some timescale }
     {
         Expanded {
             text,
             origins,
             end,
             lines,
-            timescale,
+            timescale: timescale.unwrap_or(Timescale::usual()),
+            timed: timescale.is_some(),
         }
     }
 
@@ -131,11 +136,18 @@ impl Expanded {
         }
     }
 
-    /// The timescale.
+    /// The timescale; 1 ns / 1 ns where none stands in the files (19.8).
     pub fn timescale(&self) -> Timescale
         ensures { result ≡ self.now.timescale }
     {
         self.timescale
+    }
+
+    /// Whether a `` `timescale `` stands in the files, in a part that is read.
+    pub fn is_timed(&self) -> bool
+        ensures { result ≡ self.now.timed }
+    {
+        self.timed
     }
 }
 

@@ -11,7 +11,7 @@ use crate::fault::SrcFault;
 use crate::output::TEXT_LIMIT;
 use crate::refusal::{Refusal, Why};
 use crate::walk::walk_over;
-use basis::{NoMemory, OrMemory, Timescale};
+use basis::{NoMemory, OrMemory};
 use memchr::memchr_iter;
 use std::alloc::Global;
 
@@ -29,7 +29,6 @@ pub fn expand(alloc: Global, files: &[Vec<u8>]) -> Result<Expanded, OrMemory<Src
         Ok(walk) => {
             let (made, timescale) = walk.into_parts();
             let (expanded, origins) = made.into_parts();
-            let timescale = timescale.unwrap_or(Timescale::usual());
             Ok(Expanded::new(expanded, origins, end, lines, timescale))
         }
         Err(OrMemory::Fault(refusal)) => Err(OrMemory::Fault(fault_of(&lines, refusal))),

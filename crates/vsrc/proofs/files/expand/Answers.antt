@@ -1,4 +1,4 @@
-use Rattle.std.proofs.Common.{◌≡◌, ℕ, List, Ok, Err, length, map, unwrap_or, vec_len, ap, sym, ◌∙◌, rules}
+use Rattle.std.proofs.Common.{◌≡◌, ℕ, List, Ok, Err, length, map, is_some, unwrap_or, vec_len, ap, sym, ◌∙◌, rules}
 use Rattle.std.proofs.lemmas.Result.{err_from_is_err_and}
 use Rattle.vsrc.specs.declared.fault.SrcFault.{SrcFault}
 use Rattle.vsrc.specs.Source.{Source, feeds_of, join_files, place_by, place_in, too_long}
@@ -7,6 +7,7 @@ use Rattle.vsrc.specs.Walk.{State}
 use Rattle.vsrc.specs.Walking.{state_of}
 use Rattle.vsrc.specs.Expansion.{expansion, fault_at}
 use Rattle.vsrc.specs.Inner.{IsLong}
+use Rattle.basis.specs.Timescales.{usual_timescale}
 use Rattle.vsrc.proofs.Joining.{joined_lines}
 use Rattle.vsrc.proofs.Whole.{because_so, files_long, files_ok, files_err, source_is}
 use Rattle.vsrc.proofs.files.expand.Goals as goal
@@ -38,7 +39,8 @@ returns-in-Ok-clause-ok c =
     (c.new.ensures.text ∙ c.into_parts-expanded.ensures.text ∙ ap (λ m. m.text) c.into_parts-made.ensures.made)
     (c.new.ensures.places ∙ ap (map (place_by c.new-lines.result.borders c.new-lines.result.feeds)) (c.into_parts-expanded.ensures.origins ∙ ap (λ m. m.origins) c.into_parts-made.ensures.made))
     c.new.ensures.end
-    (c.new.ensures.timescale ∙ c.unwrap_or-timescale.ensures ∙ (λ i. unwrap_or (c.into_parts-made.ensures.timescale i) (c.usual.ensures i))))
+    (c.new.ensures.timescale ∙ ap (λ t. unwrap_or t usual_timescale) c.into_parts-made.ensures.timescale)
+    (c.new.ensures.timed ∙ ap is_some c.into_parts-made.ensures.timescale))
 
 pub returns-in-Err-Fault-clause-err : goal.returns-in-Err-Fault-clause-err
 returns-in-Err-Fault-clause-err c =
