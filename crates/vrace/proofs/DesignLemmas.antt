@@ -3,7 +3,7 @@ use Rattle.std.proofs.Common.{◌≡◌, ◌<◌, ◌≤◌, inr, ℕ, List, len
 use Rattle.std.specs.Prelude.{option_and_then}
 use Rattle.vsrc.specs.Source.{Source, place_of}
 use Rattle.vsrc.specs.declared.expanded.Place.{Place}
-use Rattle.vsrc.specs.Expansion.{expansion}
+use Rattle.vsrc.specs.Expansion.{are_timed, expansion, timed_of}
 use Rattle.vsrc.specs.declared.fault.SrcFault.{SrcFault}
 use Rattle.vlex.specs.Tokenized.{Tokenized, pieces_of, start_of}
 use Rattle.vwords.specs.Words.{Text}
@@ -103,3 +103,8 @@ pub placed_in_files : (r : Result Placed Fault) (files : List (List ℕ)) (sourc
     IfOk r (λ placed. ArePlaced source top placed.origins) → IfOk r (λ placed. ArePlacedInFiles files top placed.origins)
 placed_in_files (Ok placed) files source top is here = record { source = source; expanded = is; placed = here }
 placed_in_files (Err fault) files source top is here = tt
+
+pub timed_in_files : (r : Result Placed Fault) (files : List (List ℕ)) (source : Source) → expansion files ≡ Ok source →
+    IfOk r (λ placed. placed.timed ≡ source.timed) → IfOk r (λ placed. placed.timed ≡ are_timed files)
+timed_in_files (Ok placed) files source is here = here ∙ ap timed_of (sym is)
+timed_in_files (Err fault) files source is here = tt

@@ -2,7 +2,7 @@
 
 ghost use Rattle.std.specs.Prelude.{◌≡◌, ◌≤◌, ℕ, nat_lt, List, Option, IfOk, OnOk, IfErr, map, option_map, option_and_then, true, false, None, Some, Ok, Err};
 ghost use Rattle.vsrc.specs.Source.{Source, file_bytes};
-ghost use Rattle.vsrc.specs.Expansion.{expansion, expanded_text, expanded_timescale};
+ghost use Rattle.vsrc.specs.Expansion.{are_timed, expansion, expanded_text, expanded_timescale};
 ghost use Rattle.vlex.specs.Lexed.{HasNoTokens, IsTokenReason};
 ghost use Rattle.vlex.specs.Tokenized.{Tokenized};
 ghost use Rattle.vast.specs.NumberedModules.{SourceTree};
@@ -64,11 +64,12 @@ fn at_token(tokens: &Tokens<'_>, number: Option<u32>) -> At
 /// The most words of a text.
 const MOST_WORDS: usize = 4_194_304;
 
-/// A design, and where the statement of each of its actions begins.
+/// A design, where the statement of each of its actions begins, and whether a timescale stands in its files.
 #[derive(Drop)]
 pub struct Placed {
     pub design: Design,
     pub origins: Origins,
+    pub timed: bool,
 }
 
 // The places of the tokens of these numbers.
@@ -234,13 +235,19 @@ fn design_of_text(alloc: Global, text: &Expanded, top: Option<&[u8]>) -> Result<
         IsDesignOf text.now.text text.now.timescale (named_text top.entry) placed.design) }
     ensures placed { IfOk result (λ placed.
         ArePlaced text.now (named_text top.entry) placed.origins) }
+    ensures timed { IfOk result (λ placed. placed.timed ≡ text.now.timed) }
     ensures err { IfErr result (IsTextReason text.now (named_text top.entry)) }
 {
     let tokens = tokens_of(alloc, text)?;
     let tree = tree_of(alloc, &tokens)?;
     let design = design_of_tree(alloc, &tokens, &tree, top, text.timescale())?;
     let origins = placed_origins(alloc, &tokens, &tree, top)?;
-    Ok(Placed { design, origins })
+    let timed = text.is_timed();
+    Ok(Placed {
+        design,
+        origins,
+        timed,
+    })
 }
 
 /// The design of the top module in the files, with the places of its statements. E904 where the
@@ -257,6 +264,7 @@ pub fn placed_design_of(
         IsDesignOfFiles (file_bytes files.now) (named_text top.entry) placed.design) }
     ensures placed { IfOk result (λ placed.
         ArePlacedInFiles (file_bytes files.now) (named_text top.entry) placed.origins) }
+    ensures timed { IfOk result (λ placed. placed.timed ≡ are_timed (file_bytes files.now)) }
     ensures err { IfErr result (λ fault.
         IsDesignFault (file_bytes files.now) (named_text top.entry) fault) }
 {

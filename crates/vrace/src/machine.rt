@@ -1,6 +1,7 @@
 // The machine of a design, in a setting, and that of files.
 
 ghost use Rattle.std.specs.Prelude.{◌≡◌, IfOk, IfErr};
+ghost use Rattle.vsrc.specs.Expansion.{are_timed};
 ghost use Rattle.vsrc.specs.Source.{file_bytes};
 ghost use Rattle.vrace.specs.ActionPlaces.{ArePlacedInFiles};
 ghost use Rattle.vrace.specs.Explores.{IsSearched};
@@ -34,11 +35,12 @@ pub(crate) fn machine_in(
     Ok(machine)
 }
 
-/// The machine of files, and where the statements of its design begin.
+/// The machine of files, where the statements of its design begin, and whether a `` `timescale `` stands in the files.
 #[derive(Drop)]
 pub struct PlacedMachine {
     pub machine: Machine,
     pub origins: Origins,
+    pub timed: bool,
 }
 
 /// The machine of the design that the files stand for, in the setting of the options, and where its statements begin in the files.
@@ -54,6 +56,7 @@ pub fn machine_of_files(
         IsSearched (file_bytes files.now) (request_of options.now) placed.machine) }
     ensures placed { IfOk result (λ placed.
         ArePlacedInFiles (file_bytes files.now) (request_of options.now).top placed.origins) }
+    ensures timed { IfOk result (λ placed. placed.timed ≡ are_timed (file_bytes files.now)) }
     ensures reason { IfErr result (IsDesignFault (file_bytes files.now) (request_of options.now).top) }
 {
     let placed = placed_design_of(alloc, files, options.top)?;
@@ -68,5 +71,6 @@ pub fn machine_of_files(
     Ok(PlacedMachine {
         machine,
         origins: placed.origins,
+        timed: placed.timed,
     })
 }

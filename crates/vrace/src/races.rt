@@ -101,7 +101,11 @@ pub fn find_races_in<B: Budget>(
     ensures stopped { IfOk result (λ found. TellsOfStop (B.stopped budget.new) found.races.search) }
     ensures reason { IfErr result (IsDesignFault (file_bytes files.now) (request_of options.now).top) }
 {
-    let PlacedMachine { machine, origins } = machine_of_files(alloc, files, options)?;
+    let PlacedMachine {
+        machine,
+        origins,
+        ..
+    } = machine_of_files(alloc, files, options)?;
     budget.reckon(entry_bytes(&machine));
     let races = find_races(alloc, &machine, &options.limits, scope, budget)?;
     Ok(FoundRaces {

@@ -37,7 +37,7 @@
 -- differs is E114; without one it is 1 ns and 1 ns.
 --
 -- So there is one expansion of files, or one fault: `expansion` is a function.
-use Rattle.std.specs.Prelude.{ℕ, List, [], ◌∷◌, length, map, Option, None, Some, is_some, unwrap_or, Result, Ok, Err}
+use Rattle.std.specs.Prelude.{ℕ, Bool, false, List, [], ◌∷◌, length, map, Option, None, Some, is_some, unwrap_or, Result, Ok, Err}
 use Rattle.basis.specs.declared.timescale.Timescale.{Timescale}
 use Rattle.vsrc.specs.declared.expanded.Place.{Place}
 use Rattle.vsrc.specs.declared.conditionals.Open.{Open}
@@ -109,3 +109,11 @@ timescale_of (Err fault) = usual_timescale
 
 abbrev pub expanded_timescale : List (List ℕ) → Timescale
 expanded_timescale files = timescale_of (expansion files)
+
+-- 19.8: whether a timescale stands in the files; not where there is a fault
+abbrev pub timed_of : Result Source SrcFault → Bool
+timed_of (Ok source) = source.timed
+timed_of (Err fault) = false
+
+abbrev pub are_timed : List (List ℕ) → Bool
+are_timed files = timed_of (expansion files)

@@ -8,3 +8,6 @@ returns-clause-searched c = record {
 
 pub returns-clause-placed : goal.returns-clause-placed
 returns-clause-placed c = c.in_ok-placed.ensures.placed
+
+pub returns-clause-timed : goal.returns-clause-timed
+returns-clause-timed c = c.in_ok-placed.ensures.timed
