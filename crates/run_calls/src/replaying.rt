@@ -6,6 +6,7 @@ use command_line::{
     Request, Wanted, has_dashed_log, has_dashed_top, log_of, request_of, wanted_of,
 };
 use program_base::{DASHED, ENTRIES, Stop, finish, texts, with_words};
+use sched_core::end::{Cause, End};
 use sched_core::setting::Looked;
 use std::alloc::Global;
 use std::io;
@@ -17,7 +18,7 @@ use written_times::Times;
 // What stands for the limit of departures, which a replay doesn't read.
 const DEPART: u64 = 1;
 
-// Writes the steps of the run, or its dump or its lines.
+// Writes the steps of the run, or its dump or its lines, and answers how the run ends.
 fn write_run<W: Write>(
     alloc: Global,
     texts: &[Vec<u8>],
@@ -25,7 +26,7 @@ fn write_run<W: Write>(
     log: &[u8],
     wanted: Wanted,
     writer: &mut Metered<W>,
-) -> Result<(), Fault> {
+) -> Result<End, Fault> {
     match wanted {
         Wanted::Dump => replay_text(alloc, texts, options, log, Show::Dump, writer),
         Wanted::Lines => replay_text(alloc, texts, options, log, Show::Lines, writer),
@@ -48,6 +49,15 @@ fn replay_options<'a>(request: &Request<'a>, until: u64) -> Result<Options<'a>, 
     Ok(options)
 }
 
+// Says where the time limit cut the run, if it did: what is shown isn't all that the text does.
+fn say_cut(rt: &HostRuntime, end: End, until: u64) {
+    if end.cause != Cause::Limit {
+        return;
+    }
+    // Where standard error can't be written nobody is told.
+    let _ = eprintln!(rt; "vrace: stopped at {until} by --until; events are left");
+}
+
 // Replays the texts up to this time onto standard output.
 fn replay_texts(
     rt: &HostRuntime,
@@ -57,12 +67,13 @@ fn replay_texts(
     log: &str,
     wanted: Wanted,
 ) -> Result<ExitCode, Stop> {
-    let options = replay_options(request, times.bounds(rt.alloc(), texts)?.until)?;
+    let until = times.bounds(rt.alloc(), texts)?.until;
+    let options = replay_options(request, until)?;
     let Ok(buffered) = BufWriter::new(rt.alloc(), io::writer(rt)) else {
         return Err(Stop::NoMemory);
     };
     let mut writer = Metered::new(buffered);
-    write_run(
+    let end = write_run(
         rt.alloc(),
         texts,
         &options,
@@ -71,6 +82,7 @@ fn replay_texts(
         &mut writer,
     )?;
     finish(&mut writer)?;
+    say_cut(rt, end, until);
     Ok(ExitCode::SUCCESS)
 }
 

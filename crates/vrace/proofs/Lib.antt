@@ -9,5 +9,4 @@ mod ReadLemmas
 mod LawLemmas
 mod CheckLawLemmas
 mod AgreementLemmas
-mod SeenLemmas
 mod TraceLemmas

@@ -24,6 +24,7 @@ use Rattle.vmodel.specs.RunProgress.{Finishes}
 use Rattle.vmodel.specs.History.{History}
 use Rattle.vcd_text.specs.DumpText.{vcd}
 use Rattle.lines_text.specs.LinesText.{lines}
+use Rattle.vreport.specs.Dumps.{EndsAs}
 use Rattle.vrace.specs.declared.replay.Show.{Show}
 use Rattle.vrace.specs.declared.replay.Show.TheVariants.{Dump, Lines}
 use Rattle.vrace.specs.Request.{Request}
@@ -119,6 +120,11 @@ pub record IsShown (show : Show) (files : List (List ℕ)) (asked : Request) (lo
   pub end : End
   pub finishes : Finishes (setting_of files asked log replayed) replayed.members asked.steps steps end
   pub is_text : text ≡ text_of_run show replayed.design (history_after (setting_of files asked log replayed) replayed.members steps)
+
+-- the run of the files under the log ends so
+pub record EndsSo (files : List (List ℕ)) (asked : Request) (log : List ℕ) (end : End) : Type 0 where
+  pub replayed : Replayed files asked log
+  pub ends : EndsAs (setting_of files asked log replayed) replayed.members asked.steps end
 
 -- their dump
 abbrev pub IsDump : List (List ℕ) → Request → List ℕ → List ℕ → Type 0

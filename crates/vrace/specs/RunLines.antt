@@ -11,6 +11,7 @@ use Rattle.lines_text.specs.declared.sink.LinesSink.{LinesSink}
 use Rattle.vmachine.specs.Runs.{IsHandedSo, IsRunAt, waiting}
 use Rattle.vmachine.specs.declared.run.Run.{Run}
 use Rattle.byte_sinks.specs.ByteSinks.{Stopped}
+use Rattle.vreport.specs.Dumps.{EndsAs}
 use Rattle.vrace.specs.declared.lines.LinesFront.{LinesFront}
 use Rattle.vrace.specs.declared.lines.HeldLines.{HeldLines}
 use Rattle.vrace.specs.declared.lines.HeldLines.TheVariants.{Whole, Front}
@@ -50,7 +51,7 @@ pub record IsLinesFront (setting : Setting) (log : List (ℕ × ℕ)) (limit : �
   pub text_is : front.text ≡ lines setting.design (items_after setting log front.run.n)
   pub in_force_is : front.in_force ≡ in_force_over setting.design Nobody (items_after setting log front.run.n)
 
--- the lines of the run, or those in front
+-- the lines of the run, with its end, or those in front
 abbrev pub IsHeldLines : Setting → List (ℕ × ℕ) → ℕ → HeldLines → Type 0
-IsHeldLines setting log limit (Whole text) = IsRunLines setting log limit text
+IsHeldLines setting log limit (Whole text end) = IsRunLines setting log limit text × EndsAs setting log limit end
 IsHeldLines setting log limit (Front front) = IsLinesFront setting log limit front

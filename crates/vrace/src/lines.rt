@@ -95,10 +95,10 @@ pub(crate) struct LinesFront<'l> {
     run: Run<'l>,
 }
 
-/// Lines that are held: all, or those in front.
+/// Lines that are held: all, with the end of their run, or those in front.
 #[derive(Drop)]
 pub(crate) enum HeldLines<'l> {
-    Whole(HeldText),
+    Whole(HeldText, End),
     Front(LinesFront<'l>),
 }
 
@@ -131,7 +131,7 @@ pub(crate) fn hold_lines<'l>(
     // No effect at run time. The proof reads what is held from this use.
     let _ = &*byte_sink;
     match end {
-        Some(_) => Ok(Some(HeldLines::Whole(held))),
+        Some(end) => Ok(Some(HeldLines::Whole(held, end))),
         None => Ok(Some(HeldLines::Front(LinesFront {
             text: held,
             in_force,

@@ -4,15 +4,13 @@ ghost use Rattle.std.specs.Prelude.{◌≡◌, ◌⊎◌, ℕ, List, OnOk, IfOk,
 ghost use Rattle.sched_core.specs.LogText.{IsNamedLogText};
 ghost use Rattle.sched_core.specs.Replay.{IsReplayReason};
 ghost use Rattle.vsrc.specs.Source.{file_bytes};
-ghost use Rattle.sched_core.specs.declared.end.End.{End};
-ghost use Rattle.vmodel.specs.RunProgress.{Finishes};
 ghost use Rattle.vmodel.specs.Run.{rules_of};
 ghost use Rattle.byte_sinks.specs.Metered.{Grows};
 ghost use Rattle.vrace.specs.ActionPlaces.{ArePlacedInFiles};
 ghost use Rattle.vrace.specs.Request.{request_of};
-ghost use Rattle.vrace.specs.Replays.{IsShown, IsReplayInput, grain_under as grain_by, departures_under as departures_by};
+ghost use Rattle.vrace.specs.Replays.{IsShown, EndsSo, IsReplayInput, grain_under as grain_by, departures_under as departures_by};
 ghost use Rattle.vrace.specs.Refusals.{IsLogFault, IsReason, Leaves};
-ghost use Rattle.vreport.specs.Dumps.{HasDump, IsDumpFront, IsRunDump};
+ghost use Rattle.vreport.specs.Dumps.{EndsAs, HasDump, IsDumpFront, IsRunDump};
 ghost use Rattle.vrace.specs.RunLines.{HasEnd, IsLinesFront, IsRunLines};
 ghost use Rattle.vrace.specs.RunDumps.{IsRunFault, IsRunShown, IsUnwritten, StopsText, Ends, fault_of, replay_fault_of, seeing_fault_of, failures_after};
 
@@ -23,12 +21,13 @@ use crate::machine::machine_in;
 use crate::options::Options;
 use basis::OrMemory;
 use byte_sinks::{HELD_BYTES, HeldText, Metered, WriteFault, put};
+use sched_core::end::End;
 use sched_core::setting::{Departures, Grain, Looked};
-use sched_core::{Log, LogFault, LogHead, ReplayFault, read_named_log, replay};
+use sched_core::{Log, LogFault, LogHead, ReplayFault, read_named_log};
 use std::alloc::Global;
 use std::io::Write;
 use trace_text::Origins;
-use vmachine::{Machine, machine_law};
+use vmachine::Machine;
 use vreport::{DumpFront, HeldDump, hold_dump, write_dump, write_from};
 
 /// What a replay shows of a run.
@@ -88,14 +87,14 @@ fn of_seeing(fault: OrMemory<ReplayFault>) -> Fault
     }
 }
 
-// Runs the design under the log where nobody watches: whether the run ends.
-pub(crate) fn see_end(machine: &Machine, log: &Log, steps: u32) -> Result<(), Fault>
-    ensures ends { OnOk result ((n : ℕ) × (end : End) × Finishes machine.now log.now steps n end) }
+// Runs the design under the log where nobody watches: how the run ends.
+pub(crate) fn see_end(machine: &Machine, log: &Log, steps: u32) -> Result<End, Fault>
+    ensures ends { IfOk result (EndsAs machine.now log.now steps) }
     ensures reason { IfErr result (λ fault. IsRunFault machine.now log.now steps fault) }
 {
-    machine_law();
-    match replay(machine, log, steps) {
-        Ok(_) => Ok(()),
+    let run = machine.open_run(log)?;
+    match machine.see_end(&run, steps) {
+        Ok(end) => Ok(end),
         Err(fault) => Err(of_seeing(fault)),
     }
 }
@@ -128,16 +127,20 @@ fn dump_run<W: Write>(
     log: &Log,
     steps: u32,
     writer: &mut Metered<W>,
-) -> Result<(), Fault>
+) -> Result<End, Fault>
     ensures ok { OnOk result ((dump : List ℕ) ×
         IsRunDump machine.now log.now steps dump ×
         Grows W.contents writer.old writer.new dump) }
+    ensures ends { IfOk result (EndsAs machine.now log.now steps) }
     ensures err { IfErr result (λ fault.
         Ends W.contents (IsRunDump machine.now log.now steps)
         machine.now log.now steps writer.old writer.new fault) }
 {
-    see_end(machine, log, steps)?;
-    write_run(alloc, machine, log, steps, writer)
+    let end = see_end(machine, log, steps)?;
+    match write_run(alloc, machine, log, steps, writer) {
+        Ok(()) => Ok(end),
+        Err(fault) => Err(fault),
+    }
 }
 
 // Writes the lines of the run, which ends.
@@ -167,15 +170,19 @@ fn print_run<W: Write>(
     log: &Log,
     steps: u32,
     writer: &mut Metered<W>,
-) -> Result<(), Fault>
+) -> Result<End, Fault>
     ensures ok { OnOk result ((text : List ℕ) × IsRunLines machine.now log.now steps text ×
         Grows W.contents writer.old writer.new text) }
+    ensures ends { IfOk result (EndsAs machine.now log.now steps) }
     ensures err { IfErr result (λ fault.
         Ends W.contents (IsRunLines machine.now log.now steps) machine.now log.now steps writer.old
         writer.new fault) }
 {
-    see_end(machine, log, steps)?;
-    write_run_lines(alloc, machine, log, steps, writer)
+    let end = see_end(machine, log, steps)?;
+    match write_run_lines(alloc, machine, log, steps, writer) {
+        Ok(()) => Ok(end),
+        Err(fault) => Err(fault),
+    }
 }
 
 // Writes the dump, of which the front is held, of a run that ends.
@@ -207,19 +214,23 @@ fn dump_on<W: Write>(
     steps: u32,
     front: DumpFront<'_>,
     writer: &mut Metered<W>,
-) -> Result<(), Fault>
+) -> Result<End, Fault>
     requires front { IsDumpFront machine.now front.run.log.now steps front }
     ensures ok { OnOk result ((text : List ℕ) × IsRunDump machine.now front.entry.run.log.now steps text ×
         Grows W.contents writer.old writer.new text) }
+    ensures ends { IfOk result (EndsAs machine.now front.entry.run.log.now steps) }
     ensures err { IfErr result (λ fault.
         Ends W.contents (IsRunDump machine.now front.entry.run.log.now steps) machine.now front.entry.run.log.now steps
         writer.old writer.new fault) }
 {
-    match front.see_end(machine, steps) {
-        Ok(_) => {}
+    let end = match front.see_end(machine, steps) {
+        Ok(end) => end,
         Err(fault) => return Err(of_seeing(fault)),
+    };
+    match write_run_from(alloc, machine, steps, front, writer) {
+        Ok(()) => Ok(end),
+        Err(fault) => Err(fault),
     }
-    write_run_from(alloc, machine, steps, front, writer)
 }
 
 // Writes the lines, of which those in front are held, of a run that ends.
@@ -251,29 +262,38 @@ fn print_on<W: Write>(
     steps: u32,
     front: LinesFront<'_>,
     writer: &mut Metered<W>,
-) -> Result<(), Fault>
+) -> Result<End, Fault>
     requires front { IsLinesFront machine.now front.run.log.now steps front }
     ensures ok { OnOk result ((text : List ℕ) × IsRunLines machine.now front.entry.run.log.now steps text ×
         Grows W.contents writer.old writer.new text) }
+    ensures ends { IfOk result (EndsAs machine.now front.entry.run.log.now steps) }
     ensures err { IfErr result (λ fault.
         Ends W.contents (IsRunLines machine.now front.entry.run.log.now steps) machine.now front.entry.run.log.now steps
         writer.old writer.new fault) }
 {
-    match front.see_end(machine, steps) {
-        Ok(_) => {}
+    let end = match front.see_end(machine, steps) {
+        Ok(end) => end,
         Err(fault) => return Err(of_seeing(fault)),
+    };
+    match write_run_lines_from(alloc, machine, steps, front, writer) {
+        Ok(()) => Ok(end),
+        Err(fault) => Err(fault),
     }
-    write_run_lines_from(alloc, machine, steps, front, writer)
 }
 
-// Writes a text that is held.
-fn write_held<W: Write>(text: &HeldText, writer: &mut Metered<W>) -> Result<(), Fault>
+// Writes a text that is held, of a run with this end.
+fn write_whole<W: Write>(
+    text: &HeldText,
+    end: End,
+    writer: &mut Metered<W>,
+) -> Result<End, Fault>
     ensures ok { OnOk result (Grows W.contents writer.old writer.new text.now) }
+    ensures end { IfOk result (λ told. told ≡ end) }
     ensures err { IfErr result
         (StopsText W.contents (λ held. held ≡ text.now) writer.old writer.new) }
 {
     match put(writer, text.text()) {
-        Ok(()) => Ok(()),
+        Ok(()) => Ok(end),
         Err(fault) => Err(of_writing(fault)),
     }
 }
@@ -285,15 +305,16 @@ fn show_dump<W: Write>(
     log: &Log,
     steps: u32,
     writer: &mut Metered<W>,
-) -> Result<(), Fault>
+) -> Result<End, Fault>
     ensures ok { OnOk result ((text : List ℕ) × IsRunDump machine.now log.now steps text ×
         Grows W.contents writer.old writer.new text) }
+    ensures ends { IfOk result (EndsAs machine.now log.now steps) }
     ensures err { IfErr result (λ fault.
         Ends W.contents (IsRunDump machine.now log.now steps) machine.now log.now steps
         writer.old writer.new fault) }
 {
     match hold_dump(alloc, machine, log, steps, HELD_BYTES) {
-        Ok(Some(HeldDump::Whole(text))) => write_held(&text, writer),
+        Ok(Some(HeldDump::Whole(text, end))) => write_whole(&text, end, writer),
         Ok(Some(HeldDump::Front(front))) => dump_on(alloc, machine, steps, front, writer),
         Ok(None) => dump_run(alloc, machine, log, steps, writer),
         Err(fault) => Err(of_replay(fault)),
@@ -307,15 +328,16 @@ fn show_lines<W: Write>(
     log: &Log,
     steps: u32,
     writer: &mut Metered<W>,
-) -> Result<(), Fault>
+) -> Result<End, Fault>
     ensures ok { OnOk result ((text : List ℕ) × IsRunLines machine.now log.now steps text ×
         Grows W.contents writer.old writer.new text) }
+    ensures ends { IfOk result (EndsAs machine.now log.now steps) }
     ensures err { IfErr result (λ fault.
         Ends W.contents (IsRunLines machine.now log.now steps) machine.now log.now steps
         writer.old writer.new fault) }
 {
     match hold_lines(alloc, machine, log, steps, HELD_BYTES) {
-        Ok(Some(HeldLines::Whole(text))) => write_held(&text, writer),
+        Ok(Some(HeldLines::Whole(text, end))) => write_whole(&text, end, writer),
         Ok(Some(HeldLines::Front(front))) => print_on(alloc, machine, steps, front, writer),
         Ok(None) => print_run(alloc, machine, log, steps, writer),
         Err(fault) => Err(of_replay(fault)),
@@ -330,9 +352,10 @@ fn show_run<W: Write>(
     steps: u32,
     show: Show,
     writer: &mut Metered<W>,
-) -> Result<(), Fault>
+) -> Result<End, Fault>
     ensures ok { OnOk result ((text : List ℕ) × IsRunShown show machine.now log.now steps text ×
         Grows W.contents writer.old writer.new text) }
+    ensures ends { IfOk result (EndsAs machine.now log.now steps) }
     ensures err { IfErr result (λ fault.
         Ends W.contents (IsRunShown show machine.now log.now steps) machine.now log.now steps
         writer.old writer.new fault) }
@@ -397,7 +420,8 @@ pub(crate) fn replay_input_of(
     })
 }
 
-/// Writes what is to be shown of the run of the files under the log to the writer: its value change dump, or its printed lines.
+/// Writes what is to be shown of the run of the files under the log to the writer: its value change dump, or its printed lines. Answers how
+/// the run ends: where the time limit cuts it, its events were left.
 /// The log's text may name a grain and departures, as `statement/5:1` or `process-holding/5:3`; else both are those of the options.
 ///
 /// Refusals, in the order in which they are looked for: E904 where the files together are longer than 16,777,216 bytes;
@@ -414,10 +438,12 @@ pub fn replay_text<W: Write>(
     log: &[u8],
     show: Show,
     writer: &mut Metered<W>,
-) -> Result<(), Fault>
+) -> Result<End, Fault>
     ensures shown { OnOk result ((text : List ℕ) ×
         IsShown show (file_bytes files.now) (request_of options.now) log.now text ×
         Grows W.contents writer.old writer.new text) }
+    ensures ends { IfOk result
+        (EndsSo (file_bytes files.now) (request_of options.now) log.now) }
     ensures reason { IfErr result (λ fault.
         IsReason (file_bytes files.now) (request_of options.now) log.now fault) }
     ensures left { IfErr result (λ fault.

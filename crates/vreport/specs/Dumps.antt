@@ -27,6 +27,10 @@ pub record IsRunDump (setting : Setting) (log : List (ℕ × ℕ)) (limit : ℕ)
 abbrev pub HasDump : Setting → List (ℕ × ℕ) → ℕ → Type 0
 HasDump setting log limit = (dump : List ℕ) × IsRunDump setting log limit dump
 
+-- it ends so
+abbrev pub EndsAs : Setting → List (ℕ × ℕ) → ℕ → End → Type 0
+EndsAs setting log limit end = (steps : ℕ) × Finishes setting log limit steps end
+
 -- its dump was taken
 abbrev pub TakesDump : {O : Type 0} → (O → List ℕ → O → Type 0) → Setting → List (ℕ × ℕ) → ℕ → O → O → Type 0
 TakesDump takes setting log limit old new = (dump : List ℕ) × IsRunDump setting log limit dump × takes old dump new
@@ -51,7 +55,7 @@ pub record IsDumpFront (setting : Setting) (log : List (ℕ × ℕ)) (limit : �
   pub text_is : front.text ≡ items_text setting.design (Waiting []) (items_after setting log front.run.n)
   pub progress_is : front.progress ≡ progress_over setting.design (Waiting []) (items_after setting log front.run.n)
 
--- the dump of the run, or its front
+-- the dump of the run, with the run's end, or its front
 abbrev pub IsHeldDump : Setting → List (ℕ × ℕ) → ℕ → HeldDump → Type 0
-IsHeldDump setting log limit (Whole text) = IsRunDump setting log limit text
+IsHeldDump setting log limit (Whole text end) = IsRunDump setting log limit text × EndsAs setting log limit end
 IsHeldDump setting log limit (Front front) = IsDumpFront setting log limit front

@@ -99,10 +99,10 @@ pub struct DumpFront<'l> {
     run: Run<'l>,
 }
 
-/// A dump that is held: whole, or its front.
+/// A dump that is held: whole, with the end of its run, or its front.
 #[derive(Drop)]
 pub enum HeldDump<'l> {
-    Whole(HeldText),
+    Whole(HeldText, End),
     Front(DumpFront<'l>),
 }
 
@@ -148,7 +148,7 @@ pub fn hold_dump<'l>(
     let byte_sink = sink.into_byte_sink();
     // No effect at run time. The proof reads what is held from this use.
     let _ = &*byte_sink;
-    Ok(Some(HeldDump::Whole(held)))
+    Ok(Some(HeldDump::Whole(held, end)))
 }
 
 impl<'l> DumpFront<'l> {

@@ -78,7 +78,7 @@ fn measure_dump(
     ensures long { IfFault result (λ _. HasLongDump machine.now log.now steps) }
 {
     let counted = match hold_dump(alloc, machine, log, steps, room) {
-        Ok(Some(HeldDump::Whole(text))) => {
+        Ok(Some(HeldDump::Whole(text, _))) => {
             return Ok(Measured {
                 bytes: text.text().len() as u64,
                 held: Some(text),

@@ -30,9 +30,10 @@ returns-in-Some-clause-held c =
     let start = fresh_front {F = Full} Appended (λ _ _ _ _. ⊤) held_laws setting c.in-Ok.run' c.new-sink.result c.new-sink.ensures.in_force design c.in-Ok.ensures.waits in
     let reached = subst (Reaches (Takes Appended) setting c.args.steps c.new-sink.result c.run_until_full.new.run c.run_until_full.new.sink) c.in-Some.is
     (c.in-Ok-run_until_full.ensures.ends c.new-sink.result start.given) in
-    let ended = subst (λ (log : List (ℕ × ℕ)). RunsInto (Takes Appended) setting log c.args.steps c.new-sink.result c.in-Some.field-0 c.run_until_full.new.sink)
+    let ended = subst (λ (log : List (ℕ × ℕ)). RunsInto (Takes Appended) setting log c.args.steps c.new-sink.result c.in-Some.end c.run_until_full.new.sink)
     (c.in-Ok-run_until_full.ensures.log ∙ c.in-Ok.ensures.log) reached in
-    subst (IsRunLines setting c.args.log.now c.args.steps) (search rules)
+    let text = subst (IsRunLines setting c.args.log.now c.args.steps) (search rules)
     (held_whole setting c.args.log.now c.args.steps c.new-sink.result.byte_sink.now c.run_until_full.new.sink.byte_sink.now (c.new-sink.ensures.unwritten ∙ c.new-held.ensures)
     (takes_whole {F = Full} Appended (λ _ _ _ _. ⊤) held_laws setting c.args.log.now c.args.steps c.new-sink.result c.new-sink.ensures.in_force design
-    c.run_until_full.new.sink c.in-Some.field-0 ended))
+    c.run_until_full.new.sink c.in-Some.end ended)) in
+    (text, (ended.0, ended.1))

@@ -33,7 +33,8 @@ returns-clause-held c =
     (c.in-Ok-run_until_full.ensures.ends c.new-sink.result start.given) in
     let ended = subst (λ (log : List (ℕ × ℕ)). RunsInto (Takes Appended) setting log c.args.steps c.new-sink.result c.in-Some.end c.run_until_full.new.sink)
     (c.in-Ok-run_until_full.ensures.log ∙ c.in-Ok.ensures.log) reached in
-    subst (IsRunDump setting c.args.log.now c.args.steps) (search rules)
+    let text = subst (IsRunDump setting c.args.log.now c.args.steps) (search rules)
     (held_whole setting c.args.log.now c.args.steps c.new-sink.result.byte_sink.now c.finish.new.self.byte_sink.now (c.new-sink.ensures.unwritten ∙ c.new-held.ensures)
     (takes_whole {F = Full} Appended (λ _ _ _ _. ⊤) held_laws setting c.args.log.now c.args.steps c.new-sink.result c.new-sink.ensures.progress design
-    c.run_until_full.new.sink c.finish.new.self.byte_sink.now c.in-Some.end ended c.in-Ok-finish.ensures.ok))
+    c.run_until_full.new.sink c.finish.new.self.byte_sink.now c.in-Some.end ended c.in-Ok-finish.ensures.ok)) in
+    (text, (ended.0, ended.1))
