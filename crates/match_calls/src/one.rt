@@ -7,21 +7,22 @@ use finding_text::Sources;
 use match_text::{Found, match_json, match_words};
 use matching::Matching;
 use program_base::{Stop, write_out};
+use race_findings::{DumpFound, dump_status};
 use search_meter::Meter;
 use shown_text::shown_text;
 use std::process::ExitCode;
 use vmachine::Machine;
 use vrace::Budget;
 
-// The exit status.
-fn code_of(one: &OneTried<'_>) -> ExitCode {
+// What the dump is: where nothing of it was compared, that isn't known.
+pub(crate) fn dump_found(one: &OneTried<'_>) -> DumpFound {
     if one.reference.compared_count() == 0 {
-        return ExitCode::from(3);
+        return DumpFound::Open;
     }
     match &one.tried.answer {
-        Matching::Explained(_) => ExitCode::SUCCESS,
-        Matching::Unexplained(_) if one.tried.beyond.is_none() => ExitCode::from(1),
-        _ => ExitCode::from(3),
+        Matching::Explained(_) => DumpFound::Lawful,
+        Matching::Unexplained(_) if one.tried.beyond.is_none() => DumpFound::Refuted,
+        _ => DumpFound::Open,
     }
 }
 
@@ -56,5 +57,5 @@ pub(crate) fn tell_one<'a>(
         last,
     );
     write_found(rt, &found, words.format)?;
-    Ok(code_of(&one))
+    Ok(ExitCode::from(dump_status(dump_found(&one))))
 }

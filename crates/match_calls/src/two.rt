@@ -1,6 +1,7 @@
 // Two dumps, compared with the runs of a machine and so with each other.
 
 use crate::dumps::{OpenDump, PairStop, of_second};
+use crate::one::dump_found;
 use crate::searching::{OneTried, PairTried, find_one, find_pair};
 use crate::telling::Tried;
 use crate::told::{Facts, Scene, facts_of, found_of, scene_of};
@@ -11,6 +12,7 @@ use finding_text::Sources;
 use match_text::{Apart, FoundPair, OneOfPair, PairAnswer, pair_json, pair_words};
 use matching::{Matching, Reference};
 use program_base::{Stop, write_out};
+use race_findings::DumpFound;
 use search_meter::Meter;
 use shown_text::shown_text;
 use std::alloc::Global;
@@ -34,14 +36,6 @@ struct PairFacts {
     both: Facts,
     first: Option<Facts>,
     second: Option<Facts>,
-}
-
-// What is known of one of both.
-#[derive(Clone, Copy)]
-enum Verdict {
-    Lawful,
-    Refuted,
-    Open,
 }
 
 // Whether a dump is to be searched by itself: no run explains both, it goes on behind the other's end, or nothing of it was compared.
@@ -103,13 +97,10 @@ fn find_all<'m>(
 }
 
 // What is known of a dump: where it wasn't searched by itself, the run that explains both explains it.
-fn verdict_of(one: &Option<OneTried<'_>>) -> Verdict {
+fn found_of_one(one: &Option<OneTried<'_>>) -> DumpFound {
     match one {
-        None => Verdict::Lawful,
-        Some(one) if one.reference.compared_count() == 0 => Verdict::Open,
-        Some(one) if one.tried.is_explained() => Verdict::Lawful,
-        Some(one) if one.tried.refuted_at().is_some() => Verdict::Refuted,
-        Some(_) => Verdict::Open,
+        None => DumpFound::Lawful,
+        Some(one) => dump_found(one),
     }
 }
 
@@ -124,11 +115,11 @@ fn answer_of_both(tried: &Tried) -> PairAnswer {
 
 // What both are.
 fn answer_of(found: &PairFound<'_>) -> PairAnswer {
-    match (verdict_of(&found.first), verdict_of(&found.second)) {
-        (Verdict::Lawful, Verdict::Lawful) => answer_of_both(&found.both.tried),
-        (Verdict::Lawful, Verdict::Refuted) => PairAnswer::First,
-        (Verdict::Refuted, Verdict::Lawful) => PairAnswer::Second,
-        (Verdict::Refuted, Verdict::Refuted) => PairAnswer::Neither,
+    match (found_of_one(&found.first), found_of_one(&found.second)) {
+        (DumpFound::Lawful, DumpFound::Lawful) => answer_of_both(&found.both.tried),
+        (DumpFound::Lawful, DumpFound::Refuted) => PairAnswer::First,
+        (DumpFound::Refuted, DumpFound::Lawful) => PairAnswer::Second,
+        (DumpFound::Refuted, DumpFound::Refuted) => PairAnswer::Neither,
         _ => PairAnswer::Undecided,
     }
 }

@@ -1,5 +1,8 @@
 // How far a search came.
 
+ghost use Rattle.std.specs.Prelude.{◌≡◌};
+ghost use Rattle.race_findings.specs.Status.{left_unseen};
+
 /// By what a search was cut: a growth of memory was refused, there were as many states as the limit, a run takes more steps than the limit,
 /// or its watcher said so.
 #[derive(Clone, Copy)]
@@ -32,7 +35,9 @@ pub struct Reach {
 
 impl Reach {
     /// Whether something was left unseen.
-    pub fn is_cut(&self) -> bool {
+    pub fn is_cut(&self) -> bool
+        ensures { result ≡ left_unseen self.now }
+    {
         self.cut_runs || self.cut.is_some() || self.endless.is_some()
     }
 }

@@ -251,19 +251,8 @@ impl Waived {
         self.names.get(waiver).copied().unwrap_or(0)
     }
 
-    /// How many races are waived.
-    pub fn waived_count(&self) -> u64 {
-        let mut count = 0u64;
-        for waiver in &self.by {
-            if waiver.is_some() {
-                count = count.saturating_add(1);
-            }
-        }
-        count
-    }
-
-    /// Whether each race is waived.
-    pub fn are_all(&self) -> bool {
-        self.waived_count() == self.by.len() as u64
+    /// Of each race the place of the waiver that it is waived by, if there is one.
+    pub fn waivers(&self) -> &[Option<usize>] {
+        &self.by
     }
 }

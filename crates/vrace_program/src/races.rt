@@ -14,7 +14,7 @@ use output_files::{
 };
 use program_base::{DASHED, Stop, options_for, read_file, texts, with_words, write_out};
 use race_facts::{cut_values_of, findings_of, places_of, reach_of, setting_of};
-use race_findings::{Finding, Reach};
+use race_findings::{Finding, TopFound, races_status};
 use race_groups::Scope;
 use race_page::{Page, TopRaces};
 use race_text::{
@@ -54,49 +54,6 @@ fn stopped_by(spent: Spent) -> &'static [u8] {
     match spent {
         Spent::Time => b"--seconds",
         Spent::Memory => b"--memory",
-    }
-}
-
-// What searches say in one word, the worse later.
-#[derive(Clone, Copy, PartialEq, Eq)]
-enum Verdict {
-    // No race that isn't waived, and nothing was left unseen.
-    Clean,
-    // No such race, and something was left unseen.
-    Unseen,
-    // A race that isn't waived.
-    Raced,
-}
-
-// What a search says.
-fn verdict_of(reach: &Reach, waived: &Waived) -> Verdict {
-    if !waived.are_all() {
-        Verdict::Raced
-    } else if reach.is_cut() {
-        Verdict::Unseen
-    } else {
-        Verdict::Clean
-    }
-}
-
-impl Verdict {
-    // The worse one of two.
-    fn worse(self, other: Verdict) -> Verdict {
-        match (self, other) {
-            (Verdict::Raced, _) => Verdict::Raced,
-            (Verdict::Unseen, Verdict::Clean) => Verdict::Unseen,
-            (Verdict::Unseen, _) => other,
-            (Verdict::Clean, _) => other,
-        }
-    }
-
-    // The exit status.
-    fn code(self) -> ExitCode {
-        match self {
-            Verdict::Clean => ExitCode::SUCCESS,
-            Verdict::Unseen => ExitCode::from(3),
-            Verdict::Raced => ExitCode::from(1),
-        }
     }
 }
 
@@ -180,7 +137,7 @@ struct Asked<'a> {
     steps: u32,
 }
 
-// What was told so far: of each top module, the file of waivers, how many names each waiver waives, and the worst that was found.
+// What was told so far: of each top module, the file of waivers, how many names each waiver waives, and what the exit status is made of.
 #[derive(Drop)]
 struct Answer<'w> {
     tops: Tops<'w>,
@@ -188,7 +145,7 @@ struct Answer<'w> {
     names: Vec<u64>,
     page: Option<Page>,
     dump: Option<Vec<u8>>,
-    verdict: Verdict,
+    found: Vec<TopFound>,
 }
 
 // A page that nothing is told on yet, where one is asked for.
@@ -235,7 +192,7 @@ fn no_answer<'w>(
         names: Vec::new(alloc),
         page: no_page(alloc, words, steps)?,
         dump: None,
-        verdict: Verdict::Clean,
+        found: Vec::new(alloc),
     })
 }
 
@@ -334,8 +291,9 @@ fn put_findings(
     if words.write_waivers.is_some() {
         answer.waivers.waive(findings)?;
     }
-    let verdict = verdict_of(findings.reach, findings.waived);
-    answer.verdict = answer.verdict.worse(verdict);
+    answer
+        .found
+        .push(TopFound::new(findings.waived.waivers(), findings.reach))?;
     Ok(())
 }
 
@@ -540,7 +498,7 @@ fn write_answer(
         waivers,
         page,
         dump,
-        verdict,
+        found,
         ..
     } = answer;
     let document = tops.document(VERSION)?;
@@ -549,7 +507,7 @@ fn write_answer(
     outputs.write(rt)?;
     say_undumped(rt, words, is_dumped);
     write_document(rt, &outputs, &document)?;
-    Ok(verdict.code())
+    Ok(ExitCode::from(races_status(&found)))
 }
 
 // Tells the races of the texts on standard output.
