@@ -40,7 +40,30 @@ pub trait Watcher {
     /// It said that the search is to stop.
     ghost stopped: { Self → Type 0 };
 
-    /// Whether the search is to go on. It is asked once for each entry that is taken.
+    /// Whether the search is to go on. It is asked once for each entry that is taken, and on a long way between two entries again and again.
     fn go_on(&mut self, progress: &Progress) -> bool
         ensures stops { result ≡ false → stopped self.new };
+}
+
+/// How far a search has come of which nobody asks.
+pub const NO_PROGRESS: Progress = Progress {
+    rank: 0,
+    entries_opened: 0,
+    entries_held: 0,
+    ranks_closed: 0,
+    found: 0,
+};
+
+/// A watcher that never says that a search is to stop.
+#[derive(Drop)]
+pub struct Nobody;
+
+impl Watcher for Nobody {
+    ghost use Rattle.std.specs.Prelude.{◌≡◌, false};
+
+    ghost stopped = { λ nobody. ⊥ };
+
+    fn go_on(&mut self, _progress: &Progress) -> bool {
+        true
+    }
 }

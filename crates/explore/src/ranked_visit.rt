@@ -5,8 +5,9 @@ ghost use Rattle.basis.specs.Reasons.{IfFault};
 ghost use Rattle.statebook.specs.Inner.Forced.{MayBeAdded};
 ghost use Rattle.explore.specs.Inner.Exploring.{AllowsAt};
 ghost use Rattle.explore.specs.Inner.Ways.{AllComeTo, IsSearching};
-ghost use Rattle.explore.specs.Inner.RankedSearches.{AreInOrder, HasDominator, IsHeld, IsLedOn, IsMetAt, IsRankedSearch, IsWhyUntold, Meets, RankGrows, RankGrowsFrom};
+ghost use Rattle.explore.specs.Inner.RankedSearches.{AreInOrder, HasDominator, IsHeld, IsLedOn, IsMetAt, IsRankedSearch, IsWhy, Meets, RankGrows, RankGrowsFrom};
 
+use crate::collector::{Progress, Watcher};
 use crate::halt::Halt;
 use crate::next::next_entry;
 use crate::rank_book::{RankBook, keep_later, open_in};
@@ -88,18 +89,20 @@ fn remember_way<P: Ranked>(
 
 // Keeps the entry of the next station after the choice. Where the way there takes more steps than the limit, the search
 // stops short.
-fn keep_choice<P: Ranked>(
+fn keep_choice<P: Ranked, W: Watcher>(
     alloc: Global,
     space: &P,
     limits: &Limits,
     search: &mut RankedSearch<P::State>,
     place: usize,
     choice: u32,
+    watcher: &mut W,
+    progress: &Progress,
 ) -> Result<(), OrMemory<Halt>>
     requires searching { IsRankedSearch (P.rules space.now) limits.now (P.ranks space.now) search.old }
     requires place { place < length search.old.current.book.entries }
     requires choice { AllowsAt (P.rules space.now) search.old.current.book place choice }
-    ensures why { IfFault result (IsWhyUntold (P.rules space.now) limits.now) }
+    ensures why { IfFault result (IsWhy (P.rules space.now) limits.now (W.stopped watcher.new)) }
     ensures met { OnOk result (IsMetAt (P.rules space.now) search.new place choice) }
     ensures searching { OnOk result
         (IsRankedSearch (P.rules space.now) limits.now (P.ranks space.now) search.new) }
@@ -114,6 +117,8 @@ fn keep_choice<P: Ranked>(
         entry,
         choice,
         &mut checkpoints,
+        watcher,
+        progress,
     )? {
         Some(next) => {
             remember_way(space, limits, &mut search.known, checkpoints, &next)?;
@@ -125,16 +130,18 @@ fn keep_choice<P: Ranked>(
 }
 
 /// Keeps what stands after each choice that the entry's budget allows.
-pub fn visit_entry<P: Ranked>(
+pub fn visit_entry<P: Ranked, W: Watcher>(
     alloc: Global,
     space: &P,
     limits: &Limits,
     search: &mut RankedSearch<P::State>,
     place: usize,
+    watcher: &mut W,
+    progress: &Progress,
 ) -> Result<(), OrMemory<Halt>>
     requires searching { IsRankedSearch (P.rules space.now) limits.now (P.ranks space.now) search.old }
     requires place { place < length search.old.current.book.entries }
-    ensures why { IfFault result (IsWhyUntold (P.rules space.now) limits.now) }
+    ensures why { IfFault result (IsWhy (P.rules space.now) limits.now (W.stopped watcher.new)) }
     ensures leads { OnOk result (IsLedOn (P.rules space.now) search.new place) }
     ensures searching { OnOk result
         (IsRankedSearch (P.rules space.now) limits.now (P.ranks space.now) search.new) }
@@ -142,7 +149,9 @@ pub fn visit_entry<P: Ranked>(
 {
     let count = choice_count(space, search.current.book.read(place));
     for choice in 0..count {
-        keep_choice(alloc, space, limits, search, place, choice)?;
+        keep_choice(
+            alloc, space, limits, search, place, choice, watcher, progress,
+        )?;
     }
     Ok(())
 }

@@ -1,16 +1,18 @@
 // One job: all choices of one entry.
 
-ghost use Rattle.std.specs.Prelude.{◌≡◌, ℕ, ◌+◌, ◌<◌, ◌≤◌, true, false, length, slice_get, Some, IfOk, IfSome, IfNone, OnOk, OnErr};
+ghost use Rattle.std.specs.Prelude.{◌≡◌, [], ℕ, ◌+◌, ◌<◌, ◌≤◌, true, false, length, slice_get, Some, IfOk, IfSome, IfNone, OnOk, OnErr};
 ghost use Rattle.statebook.specs.ExplorerCore.{choices_of};
 ghost use Rattle.statebook.specs.Books.{IsFinished, IsFoundAt};
 ghost use Rattle.explore.specs.Inner.Exploring.{AddsFew, AllowsAt, CutsShortAt, GrowsFrom, IsSuccessorOfPlace, IsSameOrAdded, LeadsOnAt, width_limit};
-ghost use Rattle.statebook.specs.Inner.Forced.{IfPast, IfReached, MayBeAdded};
-ghost use Rattle.explore.specs.Inner.Ways.{AllComeTo, IsSearching, PastFrom};
+ghost use Rattle.statebook.specs.Inner.Forced.{Follows, IfPast, IfReached, MayBeAdded};
+ghost use Rattle.statebook.specs.Ways.{Allows, ChoiceGoesPast};
+ghost use Rattle.explore.specs.Inner.Ways.{AllComeTo, AllGoPast, IsSearching, PastFrom};
 
+use crate::collector::{NO_PROGRESS, Nobody};
 use crate::next::next_entry;
 use crate::search::{Checkpoint, Search};
 use crate::ways::remember;
-use basis::NoMemory;
+use basis::{NoMemory, OrMemory};
 use indexmap::IndexMap;
 use sched_core::{Log, Space};
 use statebook::{Done, Entry, Limits, Met, PlainBook};
@@ -69,6 +71,41 @@ pub fn insert_reached<P: Space>(
     Ok(place)
 }
 
+// `next_entry` where nobody stops it.
+fn next_unwatched<P: Space>(
+    space: &P,
+    limits: &Limits,
+    search: &Search<P::State>,
+    entry: &Entry<P::State>,
+    choice: u32,
+    checkpoints: &mut Vec<Checkpoint<P::State>>,
+) -> Result<Option<Entry<P::State>>, NoMemory>
+    requires searching { IsSearching (P.rules space.now) limits.now search.now }
+    requires entry { MayBeAdded (P.rules space.now) limits.now entry.now }
+    requires choice { Allows (P.rules space.now) entry.now choice }
+    requires none_yet { checkpoints.old.items ≡ [] }
+    ensures follows { IfReached result (Follows (P.rules space.now) entry.now choice) }
+    ensures allowed { IfReached result (MayBeAdded (P.rules space.now) limits.now) }
+    ensures past { IfPast result (ChoiceGoesPast (P.rules space.now) limits.now entry.now choice) }
+    ensures come { IfReached result (AllComeTo (P.rules space.now) checkpoints.new.items) }
+    ensures go_past { IfPast result (AllGoPast (P.rules space.now) checkpoints.new.items limits.now) }
+{
+    match next_entry(
+        space,
+        limits,
+        search,
+        entry,
+        choice,
+        checkpoints,
+        &mut Nobody,
+        &NO_PROGRESS,
+    ) {
+        Ok(next) => Ok(next),
+        Err(OrMemory::Memory(refused)) => Err(refused),
+        Err(OrMemory::Fault(_)) => unreachable!(),
+    }
+}
+
 // Meets the book with the next station after the choice, and answers with the place of the entry
 // that dominates it; None where the way there takes more steps than the limit.
 fn insert_choice<P: Space>(
@@ -90,7 +127,7 @@ fn insert_choice<P: Space>(
 {
     let mut checkpoints = Vec::new(alloc);
     let entry = search.book.read(place);
-    match next_entry(space, limits, search, entry, choice, &mut checkpoints)? {
+    match next_unwatched(space, limits, search, entry, choice, &mut checkpoints)? {
         Some(next) => {
             let met = insert_reached(space, limits, search, checkpoints, next)?;
             Ok(Some(met))

@@ -3,11 +3,14 @@
 ghost use Rattle.std.specs.Prelude.{◌≡◌, ◌≤◌, [], IfOk};
 ghost use Rattle.statebook.specs.Ways.{GoesPast};
 ghost use Rattle.statebook.specs.Inner.Forced.{ComesTo, IfPast, IfReached};
-ghost use Rattle.explore.specs.Inner.Ways.{AllCome, AllGoPast, IsAhead, IsSearching};
+ghost use Rattle.basis.specs.Reasons.{IfFault};
+ghost use Rattle.explore.specs.Inner.Ways.{AllCome, AllGoPast, IsAhead, IsSearching, IsTold};
 
+use crate::collector::{Progress, Watcher};
+use crate::halt::Halt;
 use crate::search::{Checkpoint, Search};
 use crate::ways::onward_from;
-use basis::NoMemory;
+use basis::{NoMemory, OrMemory};
 use sched_core::Space;
 use statebook::{Limits, walk};
 
@@ -54,15 +57,18 @@ fn look_ahead<P: Space>(
 ///
 /// Each time that the count of steps comes to a multiple of `SPACING` it looks whether it is known how
 /// the way goes on. Where that doesn't decide, the state becomes a checkpoint. So at most one step in
-/// `SPACING` copies a state, and a way that comes to a remembered state at such a count ends there.
-pub fn to_station<P: Space>(
+/// `SPACING` copies a state, and a way that comes to a remembered state at such a count ends there. At each such
+/// count the watcher is asked, too; where it says so the way stops short, and its checkpoints say nothing.
+pub fn to_station<P: Space, W: Watcher>(
     space: &P,
     limits: &Limits,
     search: &Search<P::State>,
     state: &mut P::State,
     taken: u32,
     checkpoints: &mut Vec<Checkpoint<P::State>>,
-) -> Result<Option<u32>, NoMemory>
+    watcher: &mut W,
+    progress: &Progress,
+) -> Result<Option<u32>, OrMemory<Halt>>
     requires searching { IsSearching (P.rules space.now) limits.now search.now }
     requires within { taken ≤ limits.now.steps }
     requires none_yet { checkpoints.old.items ≡ [] }
@@ -71,6 +77,7 @@ pub fn to_station<P: Space>(
     ensures past { IfPast result (GoesPast (P.rules space.now) state.old taken limits.now.steps) }
     ensures come { IfReached result (AllCome (P.rules space.now) checkpoints.new.items state.new) }
     ensures go_past { IfPast result (AllGoPast (P.rules space.now) checkpoints.new.items limits.now) }
+    ensures why { IfFault result (IsTold (W.stopped watcher.new)) }
 {
     let root = &search.book.read(0).state;
     let mut n = taken;
@@ -82,6 +89,9 @@ pub fn to_station<P: Space>(
         n = until;
         if n == limits.steps {
             return Ok(None);
+        }
+        if !watcher.go_on(progress) {
+            return Err(OrMemory::Fault(Halt::Stopped));
         }
         match look_ahead(space, limits, search, state, n)? {
             Ahead::Station(reached) => return Ok(Some(reached)),

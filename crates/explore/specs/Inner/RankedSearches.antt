@@ -162,10 +162,6 @@ IsWhy r limits IsTold Entries = HasEntries r limits
 IsWhy r limits IsTold Steps = SomeRunExceeds r limits
 IsWhy r limits IsTold Stopped = IsTold
 
--- The same where nobody tells it to stop.
-abbrev pub IsWhyUntold : {S : Type 0} → Rules S → Limits → Halt → Type 0
-IsWhyUntold r limits halt = IsWhy r limits ⊥ halt
-
 -- No run of at most k departures comes to a mark of a rank above the one and below the other.
 abbrev pub NoneBetween : {S : Type 0} → Rules S → ℕ → (S → ℕ) → ℕ → ℕ → Type 0
 NoneBetween r k rank least above =

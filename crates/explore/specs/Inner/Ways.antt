@@ -7,12 +7,20 @@ use Rattle.statebook.specs.declared.limits.Limits.{Limits}
 use Rattle.statebook.specs.Ways.{ChoiceGoesPast, GoesPast}
 use Rattle.statebook.specs.Inner.Forced.{ComesTo}
 use Rattle.explore.specs.Inner.Exploring.{IsUnderWay, OfEntry}
+use Rattle.explore.specs.declared.halt.Halt.{Halt}
+use Rattle.explore.specs.declared.halt.Halt.TheVariants.{Entries, Steps, Stopped}
 use Rattle.explore.specs.declared.search.Onward.{Onward}
 use Rattle.explore.specs.declared.search.Checkpoint.{Checkpoint}
 use Rattle.explore.specs.declared.search.Search.{Search}
 use Rattle.explore.specs.declared.ways.TheConstants.{ROOM}
 use Rattle.explore.specs.declared.way.Ahead.{Ahead}
 use Rattle.explore.specs.declared.way.Ahead.TheVariants.{Station, Past, Unknown}
+
+-- The watcher said that the search is to stop.
+abbrev pub IsTold : Type 0 → Halt → Type 0
+IsTold IsStopped Entries = ⊥
+IsTold IsStopped Steps = ⊥
+IsTold IsStopped Stopped = IsStopped
 
 -- From s on there is no station for so many steps; with a place, there is one then, the state of the entry at the place.
 abbrev pub LeadsTo : {S : Type 0} → Rules S → List (Entry S) → S → ℕ → Option ℕ → Type 0

@@ -3,7 +3,7 @@ use Rattle.explore.specs.Inner.RankedSearches.{IsLedOn}
 use Rattle.explore.proofs.ClassLemmas.{one_other}
 use Rattle.explore.proofs.RankedLemmas.{led_more, led_to_end, rank_grows_twice, rank_grows_wider}
 use Rattle.explore.proofs.ranked_classes.visit_budget.Goals as goal
-use Rattle.explore.proofs.ranked_classes.visit_budget.Goals.{then-read-budget+in_ok-may_go_on+in_ok-visit_entry, else-read-budget}
+use Rattle.explore.proofs.ranked_classes.visit_budget.Goals.{then-read-budget+in_ok-take_entry, else-read-budget}
 
 pub loop-place-preserved : goal.loop-place-preserved
 loop-place-preserved g c =
@@ -12,12 +12,12 @@ loop-place-preserved g c =
     let i = c.loop-place.invariant in
     let e = c.read.result.now in
     elim c.if-read-budget.branch [
-      | then-read-budget+in_ok-may_go_on+in_ok-visit_entry w ↦
+      | then-read-budget+in_ok-take_entry w ↦
           rw w.search-is (record {
-            searching = w.in_ok-visit_entry.ensures.searching;
-            grows = rank_grows_twice c.args.search.now now w.visit_entry.new.search c.args.budget i.grows
-                (rank_grows_wider now w.visit_entry.new.search e.budget c.args.budget (omega (arith, w.if-read-budget.true)) (w.in_ok-visit_entry.ensures.grows e c.read.ensures));
-            led = led_more r now w.visit_entry.new.search c.args.budget c.loop-place.place e c.read.ensures w.if-read-budget.true w.in_ok-visit_entry.ensures.grows i.led w.in_ok-visit_entry.ensures.leads;
+            searching = w.in_ok-take_entry.ensures.searching;
+            grows = rank_grows_twice c.args.search.now now w.take_entry.new.search c.args.budget i.grows
+                (rank_grows_wider now w.take_entry.new.search e.budget c.args.budget (omega (arith, w.if-read-budget.true)) (w.in_ok-take_entry.ensures.grows e c.read.ensures));
+            led = led_more r now w.take_entry.new.search c.args.budget c.loop-place.place e c.read.ensures w.if-read-budget.true w.in_ok-take_entry.ensures.grows i.led w.in_ok-take_entry.ensures.leads;
           })
       | else-read-budget w ↦
           rw w.search-is (record {

@@ -1,12 +1,13 @@
-use Rattle.std.proofs.Common.{◌≡◌, ◌∙◌, sym, subst, arith}
+use Rattle.std.proofs.Common.{◌≡◌, ◌≤◌, ◌∙◌, sym, subst, arith}
 use Rattle.std.proofs.lemmas.Option.{same_Some}
 use Rattle.statebook.specs.declared.entry.Entry.{Entry}
-use Rattle.statebook.specs.Inner.Forced.{GoesOn, MayBeAdded}
+use Rattle.statebook.specs.Inner.Forced.{Follows, GoesOn, MayBeAdded}
 use Rattle.statebook.specs.Inner.Frontiers.{HasSuccessorIn}
 use Rattle.statebook.proofs.FrontierLemmas.{follower_rises}
 use Rattle.statebook.proofs.NextLemmas.{exceeds}
-use Rattle.explore.specs.Inner.RankedSearches.{IsHeld}
-use Rattle.explore.proofs.RankedLemmas.{is_successor, knows_instead}
+use Rattle.explore.specs.Inner.RankedSearches.{IsHeld, RankGrows}
+use Rattle.explore.proofs.VisitLemmas.{budget_after-le}
+use Rattle.explore.proofs.RankedLemmas.{is_successor, knows_instead, rank_grows_wider}
 use Rattle.explore.proofs.ranked_visit.keep_choice.Goals as goal
 
 pub keep-requires-clause-searching : goal.keep-requires-clause-searching
@@ -35,3 +36,13 @@ returns-in-None-clause-why g c =
     let e = c.read-entry.result.now in
     exceeds (g.P.Space.rules c.args.space.now) (g.met.P.Space.lawful c.args.space.now) c.args.limits.now e c.args.choice (c.requires.searching.held.current e (c.args.place, c.read-entry.ensures)).0 (c.requires.choice e c.read-entry.ensures)
     (rw c.in-None.is at c.in_ok-next.ensures.past)
+
+pub returns-in_ok-keep-in-Some-clause-grows : goal.returns-in_ok-keep-in-Some-clause-grows
+returns-in_ok-keep-in-Some-clause-grows g c = λ e at.
+    let read = c.read-entry.result.now in
+    let itself : read ≡ e = same_Some _ _ (sym c.read-entry.ensures ∙ at) in
+    let follows : Follows (g.P.Space.rules c.args.space.now) read c.args.choice c.in-Some.next = rw c.in-Some.is at c.in_ok-next.ensures.follows in
+    let le : c.in-Some.next.budget ≤ read.budget = omega (arith, follows.budget, budget_after-le read.budget c.args.choice) in
+    let P : Entry g.row.P-State.Denot → Type 0 = λ x. RankGrows c.args.search.now c.keep.new.search x.budget in
+    let grows = rank_grows_wider _ c.keep.new.search c.in-Some.next.budget read.budget le c.in_ok-keep-in-Some.ensures.grows in
+    subst P itself (record { current = grows.current; held = grows.held; rank = grows.rank })

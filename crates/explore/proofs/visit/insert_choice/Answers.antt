@@ -12,8 +12,8 @@ use Rattle.explore.proofs.visit.insert_choice.Given.{Over}
 use Rattle.explore.proofs.visit.insert_choice.Goals as goal
 use Rattle.explore.proofs.visit.insert_choice.Goals.{After-insert_reached, After-remember}
 
-pub next_entry-requires-clause-entry : goal.next_entry-requires-clause-entry
-next_entry-requires-clause-entry g c = λ κs h. c.requires.searching.under_way.sound.entry c.args.place c.read-entry.result.now c.read-entry.ensures
+pub next_unwatched-requires-clause-entry : goal.next_unwatched-requires-clause-entry
+next_unwatched-requires-clause-entry g c = λ κs h. c.requires.searching.under_way.sound.entry c.args.place c.read-entry.result.now c.read-entry.ensures
 
 -- the book has grown by the next entry at most
 grown : (g : Over) (c : After-insert_reached g) (e : Entry g.row.P-State.Denot) → slice_get c.args.search.now.book.entries c.args.place ≡ Some e → BookGrows c.args.search.now.book c.insert_reached.new.search.book e.budget
@@ -32,9 +32,9 @@ kept_past g c =
     let L : Book g.row.P-State.Denot → Type 0 = λ b. AllLead r b.entries c.remember.new.search.ways.entries in
     record {
       under_way = subst U (sym c.remember.ensures.book) c.requires.searching.under_way;
-      lead = subst L (sym c.remember.ensures.book) (lead_more r (g.met.P.Space.lawful c.args.space.now) g.P.State.PartialEq.eq (g.met.P.Space.same_is_eq c.args.space.now) c.args.search.now.book.entries c.args.search.now.ways.entries c.remember.new.search.ways.entries c.next_entry.new.checkpoints.items (c.args.limits.now.steps + 1) None
+      lead = subst L (sym c.remember.ensures.book) (lead_more r (g.met.P.Space.lawful c.args.space.now) g.P.State.PartialEq.eq (g.met.P.Space.same_is_eq c.args.space.now) c.args.search.now.book.entries c.args.search.now.ways.entries c.remember.new.search.ways.entries c.next_unwatched.new.checkpoints.items (c.args.limits.now.steps + 1) None
           c.requires.searching.lead
-          (marks_lead_past r c.args.search.now.book.entries c.args.limits.now c.next_entry.new.checkpoints.items (rw c.in-None.is at c.in_ok-next.ensures.go_past))
+          (marks_lead_past r c.args.search.now.book.entries c.args.limits.now c.next_unwatched.new.checkpoints.items (rw c.in-None.is at c.in_ok-next.ensures.go_past))
           c.remember.ensures.remembered);
       room = c.remember.ensures.room;
     }
