@@ -13,7 +13,7 @@ use statement_law::law::statement_law;
 /// back is, under another log, one in which they only take. What may be taken may also be taken while all that stands before it is
 /// held back. Choice 0 takes no process that is held back, and the one that made the last step where that can go on. While a process
 /// is held back something else can go on; what is held back is active; an advance leaves nobody held back, and what a step takes
-/// isn't held back after it. The bag of a state has each line as often as its slot has printed it, in whichever order.
+/// isn't held back after it. The bag of a state has each line as often as it stands in what its slot has printed, cut at its line feeds.
 pub fn holding_law()
     ensures takes { HoldingIsTaking }
     ensures holds { CanHold }
