@@ -102,9 +102,6 @@ put_low line (first ∷ rest) low = by (slice_cmp nat_cmp line first) refl
     by Equal is = ap (λ (o : Ordering). insert_by o line first (with_line line rest) rest) is
     by Less is = ap (λ (o : Ordering). insert_by o line first (with_line line rest) rest) is
 
-same_line : (a b : List ℕ) → slice_cmp nat_cmp a b ≡ Equal → a ≡ b
-same_line a b is = (list_tells nat_eq unsigned_Decides a b).0 (texts_ties a b ∙ ap is_eq is)
-
 pub placed : (line : List ℕ) (lines : List (List ℕ)) (k : ℕ) → AreLinesInOrder lines → k ≤ length lines → IsBehind line lines k → IsBefore line lines k →
     insert lines k line ≡ with_line line lines
 placed line [] zero order within high low = refl
@@ -121,7 +118,7 @@ placed line (first ∷ rest) (suc k) order within high low =
     by Greater is later =
         ap (λ (lines : List (List ℕ)). first ∷ lines) later ∙ sym (ap (λ (o : Ordering). insert_by o line first (with_line line rest) rest) is)
     by Equal is later =
-        let same : line ≡ first = same_line line first is in
+        let same : line ≡ first = (list_tells nat_eq unsigned_Decides line first).0 (texts_ties line first ∙ ap is_eq is) in
         ap (λ (lines : List (List ℕ)). first ∷ lines) (later ∙ put_low line rest (subst (λ (x : List ℕ). IsLow x rest) (sym same) (order_first first rest order)))
         ∙ ap (λ (x : List ℕ). x ∷ line ∷ rest) (sym same)
         ∙ ap (λ (x : List ℕ). line ∷ x ∷ rest) same

@@ -1,6 +1,6 @@
 -- Texts, cut at their line feeds.
-use Rattle.std.proofs.Common.{◌≡◌, ◌≢◌, ℕ, zero, suc, ◌+◌, ◌-◌, ◌<◌, Bool, true, false, List, [], ◌∷◌, ◌++◌, length, get_or, drop, drop-cons, append_assoc, Some, refl, sym, ap, subst, ◌∙◌, arith}
-use native.Mathlib.Numerals.{unary_clauses}
+use Rattle.std.proofs.Common.{◌≡◌, ◌≢◌, ℕ, zero, suc, ◌+◌, ◌-◌, ◌<◌, Bool, true, false, List, [], ◌∷◌, ◌++◌, length, get_or, drop, append_assoc, Some, refl, sym, ap, subst, ◌∙◌, arith}
+use Rattle.std.proofs.lemmas.List.{drop_more}
 use Rattle.std.proofs.lemmas.Bool.{ne_eqb}
 use Rattle.std.specs.Prelude.{nat_eq, slice_get}
 use Rattle.sched_core.specs.Bags.{with_byte, with_line, lines_of, is_whole, with_each}
@@ -35,9 +35,6 @@ ended_by (one ∷ []) (suc n) byte last is = absurd (omega (arith, last))
 ended_by (one ∷ next ∷ more) zero byte last is = absurd (omega (arith, last))
 ended_by (one ∷ next ∷ more) (suc n) byte last is = ended_by (next ∷ more) n byte (omega (arith, last)) is
 
-next_byte : (text : List ℕ) (i : ℕ) → i < length text → drop i text ≡ get_or text i 0 ∷ drop (i + 1) text
-next_byte text i within = simp unary_clauses (drop-cons text i 0 within)
-
 -- a byte more of a text whose lines are gathered
 pub went_on : (line grown text : List ℕ) (i : ℕ) → HasNoFeed line → i < length text → grown ≡ line ++ get_or text i 0 ∷ [] → nat_eq (get_or text i 0) 10 ≡ false →
     HasNoFeed grown × (lines_of (grown ++ drop (i + 1) text) ≡ lines_of (line ++ drop i text))
@@ -45,14 +42,14 @@ went_on line grown text i none within is isnt = (
   subst HasNoFeed (sym is) (no_feed-more line (get_or text i 0) none isnt),
   ap lines_of (ap (λ (front : List ℕ). front ++ drop (i + 1) text) is
       ∙ append_assoc line (get_or text i 0 ∷ []) (drop (i + 1) text)
-      ∙ ap (λ (behind : List ℕ). line ++ behind) (sym (next_byte text i within))),
+      ∙ ap (λ (behind : List ℕ). line ++ behind) (sym (drop_more text i 0 within))),
 )
 
 -- the line feed
 pub line_came : (line grown text : List ℕ) (i : ℕ) → HasNoFeed line → i < length text → grown ≡ line ++ get_or text i 0 ∷ [] → nat_eq (get_or text i 0) 10 ≡ true →
     lines_of (line ++ drop i text) ≡ grown ∷ lines_of (drop (i + 1) text)
 line_came line grown text i none within is feed =
-    ap (λ (behind : List ℕ). lines_of (line ++ behind)) (next_byte text i within)
+    ap (λ (behind : List ℕ). lines_of (line ++ behind)) (drop_more text i 0 within)
     ∙ ended line (get_or text i 0) (drop (i + 1) text) none feed
     ∙ ap (λ (x : List ℕ). x ∷ lines_of (drop (i + 1) text)) (sym is)
 
