@@ -28,7 +28,7 @@ class Run:
         self.inactive, self.activated, self.posted, self.future, self.strobes = set(), [], [], {}, []
         self.waits, self.rung = {}, None
         self.time, self.last, self.beyond, self.finished, self.items = 0, None, False, "", []
-        self.held, self.printed, self.bags = set(), [] if lines else None, []
+        self.held, self.printed, self.bags = set(), "" if lines else None, []
         if not self.active:
             self.items.append((0, list(self.values)))
         self.note("", self.items)
@@ -78,15 +78,15 @@ class Run:
         self.note(choice, self.items[told:])
 
     def note(self, choice, items):
-        """Keeps the lines of the slot, where they are looked at: in the order of their bytes those so far, and those of each slot that has ended."""
+        """Keeps what the slot has printed so far, where lines are looked at, and the lines of each slot that has ended."""
         if self.printed is not None:
-            before = [] if choice == "advance" else self.printed
-            self.printed = sorted(before + [item[1] for item in items if item[0] == "line"])
-            self.bags += [tuple(self.printed) for item in items if is_slot(item)]
+            before = "" if choice == "advance" else self.printed
+            self.printed = before + "".join(item[1] for item in items if item[0] == "line")
+            self.bags += [self.bag() for item in items if is_slot(item)]
 
     def bag(self):
-        """The lines of the last slot, where they are looked at."""
-        return None if self.printed is None else tuple(self.printed)
+        """The lines of the last slot, where they are looked at, in the order of their bytes: each with its line feed, but for what none ends."""
+        return None if self.printed is None else tuple(sorted(re.findall(r"[^\n]*\n|[^\n]+", self.printed)))
 
     def world(self):
         return World(self.values, self.signs, self.time // self.made.factor, self.limits)

@@ -1,13 +1,14 @@
 -- In which order lines are put into a bag doesn't count.
-use Rattle.std.proofs.Common.{◌≡◌, ◌≢◌, ℕ, List, [], ◌∷◌, refl, sym, ap, subst, ◌∙◌}
-use Rattle.std.specs.Prelude.{nat_eq}
+use Rattle.std.proofs.Common.{◌≡◌, ◌≢◌, ℕ, Bool, true, false, cond, List, [], ◌∷◌, refl, sym, ap, subst, ◌∙◌}
+use Rattle.std.specs.Prelude.{nat_eq, not}
 use Rattle.std.specs.Ordering.{nat_cmp, is_eq, ordering_reverse}
 use Rattle.std.specs.Cmp.{IsTotalOrder, unsigned_Decides}
 use Rattle.std.specs.Cmp.Lexicographic.{slice_cmp, texts_ties}
 use Rattle.std.proofs.lemmas.Cmp.{nat_list_cmp_total}
 use Rattle.std.specs.declared.cmp.Ordering.{Ordering}
 use Rattle.std.specs.declared.cmp.Ordering.TheVariants.{Less, Equal, Greater}
-use Rattle.sched_core.specs.Bags.{insert_by, with_line}
+use Rattle.sched_core.specs.Bags.{insert_by, with_line, is_whole, lines_of, pieces_of, with_each, with_text}
+use Rattle.sched_core.proofs.BagLemmas.{pieces-with_line, no_piece-with_text}
 use Rattle.sched_core.specs.Tests.{list_tells}
 
 order : IsTotalOrder (slice_cmp nat_cmp)
@@ -83,3 +84,34 @@ unordered a b bag = by (slice_cmp nat_cmp a b) refl
         let same : a ≡ b = (list_tells nat_eq unsigned_Decides a b).0 (texts_ties a b ∙ ap is_eq is) in
         ap (λ (line : List ℕ). with_line line (with_line b bag)) same ∙ ap (λ (line : List ℕ). with_line b (with_line line bag)) (sym same)
     by Greater is = sym (less_first b a bag (order.antisymm b a ∙ ap ordering_reverse is))
+
+-- ---- several lines
+
+each_one : (a : List ℕ) (lines bag : List (List ℕ)) → with_each lines (with_line a bag) ≡ with_line a (with_each lines bag)
+each_one a [] bag = refl
+each_one a (line ∷ lines) bag = ap (with_each lines) (unordered line a bag) ∙ each_one a lines (with_line line bag)
+
+each_each : (xs ys bag : List (List ℕ)) → with_each xs (with_each ys bag) ≡ with_each ys (with_each xs bag)
+each_each [] ys bag = refl
+each_each (x ∷ xs) ys bag = ap (with_each xs) (sym (each_one x ys bag)) ∙ each_each xs ys (with_line x bag)
+
+-- whole lines leave no piece
+whole_each : (lines bag : List (List ℕ)) → pieces_of lines ≡ [] → pieces_of bag ≡ [] → pieces_of (with_each lines bag) ≡ []
+whole_each [] bag whole none = none
+whole_each (line ∷ lines) bag whole none = by (is_whole line) refl whole (whole_each lines (with_line line bag))
+  where
+    by : (w : Bool) → is_whole line ≡ w → cond (not w) (line ∷ pieces_of lines) (pieces_of lines) ≡ [] →
+        (pieces_of lines ≡ [] → pieces_of (with_line line bag) ≡ [] → pieces_of (with_each lines (with_line line bag)) ≡ []) →
+        pieces_of (with_each lines (with_line line bag)) ≡ []
+    by true is all later = later all (pieces-with_line line bag is ∙ none)
+    by false is all later = cc
+
+both : (a b : List ℕ) (bag : List (List ℕ)) → pieces_of (lines_of b) ≡ [] → pieces_of bag ≡ [] →
+    with_text a (with_text b bag) ≡ with_each (lines_of a) (with_each (lines_of b) bag)
+both a b bag whole none =
+    ap (with_text a) (sym (no_piece-with_text b bag none)) ∙ sym (no_piece-with_text a (with_each (lines_of b) bag) (whole_each (lines_of b) bag whole none))
+
+pub prints_unordered : (a b : List ℕ) (bag : List (List ℕ)) → pieces_of (lines_of a) ≡ [] → pieces_of (lines_of b) ≡ [] → pieces_of bag ≡ [] →
+    with_text a (with_text b bag) ≡ with_text b (with_text a bag)
+prints_unordered a b bag first second none =
+    both a b bag second none ∙ each_each (lines_of a) (lines_of b) bag ∙ sym (both b a bag first none)

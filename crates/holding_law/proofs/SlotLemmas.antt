@@ -1,13 +1,16 @@
--- The bag of a state has each line as often as its slot has printed it.
+-- The bag of a state has each line as often as it stands in what its slot has printed.
 use Rattle.std.proofs.Common.{◌≡◌, inl, inr, ℕ, zero, suc, ◌+◌, Bool, true, false, cond, List, [], ◌∷◌, ◌++◌, Option, Some, None, refl, sym, ap, subst, ◌∙◌, arith, append_assoc}
 use Rattle.std.specs.Prelude.{nat_eq}
+use Rattle.std.specs.Cmp.{unsigned_Decides}
 use Rattle.std.specs.Cmp.Lexicographic.{pointwise, slice_cmp}
 use Rattle.std.specs.Ordering.{nat_cmp}
 use Rattle.std.specs.declared.cmp.Ordering.{Ordering}
 use Rattle.std.specs.declared.cmp.Ordering.TheVariants.{Less, Equal, Greater}
 use Rattle.std.proofs.lemmas.List.{append-nil}
 use Rattle.basis.proofs.Lists.{listed_place}
-use Rattle.sched_core.specs.Bags.{insert_by, with_line}
+use Rattle.sched_core.specs.Bags.{insert_by, with_line, is_whole, lines_of, whole_lines, piece_of, with_each, with_text}
+use Rattle.sched_core.specs.Tests.{list_tells}
+use Rattle.sched_core.proofs.PieceLemmas.{lines_of-append, piece-with_text}
 use Rattle.sched_core.specs.Rules.{choice_at, IsRun}
 use Rattle.sched_core.specs.declared.end.Cause.{Cause}
 use Rattle.sched_core.specs.declared.setting.Looked.TheVariants.{Lines}
@@ -22,13 +25,13 @@ use Rattle.vmodel.specs.declared.choice.Choice.{Choice}
 use Rattle.vmodel.specs.declared.choice.Choice.TheVariants.{Run, Update, Advance}
 use Rattle.vmodel.specs.State.{State}
 use Rattle.vmodel.specs.Choices.{choices}
-use Rattle.vmodel.specs.Printed.{with_lines, lines_before, printed_after}
+use Rattle.vmodel.specs.Printed.{with_item, with_lines, lines_before, printed_after}
 use Rattle.vmodel.specs.Step.{Transition, transition_of, shown_items, idle_items, slot_end_by, slot_end_of, strobe_items, before_end, items_of, with_held_after, with_views, transition_by, next}
 use Rattle.vmodel.specs.Run.{Setting, rules_of, opening_of, printed_at_first, state_after, items_after}
 use Rattle.vmodel.specs.RunProgress.{opening_is, width_is, after_is}
 use Rattle.plain_steps.specs.RunLaws.{IsAlwaysKept}
 use Rattle.vmodel.specs.SlotEnds.{IsIdle}
-use Rattle.holding_law.specs.SlotLines.{times_in, lines_in, AreWithin, HasSlotLines}
+use Rattle.holding_law.specs.SlotLines.{times_in, printed_in, AreWithin, IsSlot, HasSlotLines}
 use Rattle.holding_law.proofs.MemberLemmas.{IsIn}
 use Rattle.holding_law.proofs.MayLemmas.{MayGo, may_go}
 use Rattle.holding_law.proofs.SeenLemmas.{items-seen}
@@ -56,22 +59,76 @@ times-with_line line text [] = times-cons line text []
 times-with_line line text (first ∷ rest) =
     times-placed (slice_cmp nat_cmp text first) line text first (with_line text rest) rest (times-with_line line text rest)
 
-times-with_lines : (line : List ℕ) (items : List Item) (bag : List (List ℕ)) →
-    times_in line (with_lines items bag) ≡ times_in line (lines_in items) + times_in line bag
-times-with_lines line [] bag = omega arith
-times-with_lines line (Line text ∷ items) bag =
-    omega (arith, times-with_lines line items (with_line text bag), times-with_line line text bag, times-cons line text (lines_in items))
-times-with_lines line (SlotEnd time values ∷ items) bag = times-with_lines line items bag
-times-with_lines line (Dump command ∷ items) bag = times-with_lines line items bag
-times-with_lines line (Monitor place ∷ items) bag = times-with_lines line items bag
+times-with_each : (line : List ℕ) (lines bag : List (List ℕ)) → times_in line (with_each lines bag) ≡ times_in line lines + times_in line bag
+times-with_each line [] bag = omega arith
+times-with_each line (one ∷ lines) bag =
+    omega (arith, times-with_each line lines (with_line one bag), times-with_line line one bag, times-cons line one lines)
 
-times-both : (line : List ℕ) (xs ys : List Item) → times_in line (lines_in (xs ++ ys)) ≡ times_in line (lines_in xs) + times_in line (lines_in ys)
+times-both : (line : List ℕ) (xs ys : List (List ℕ)) → times_in line (xs ++ ys) ≡ times_in line xs + times_in line ys
 times-both line [] ys = omega arith
-times-both line (Line text ∷ xs) ys =
-    omega (arith, times-both line xs ys, times-cons line text (lines_in xs), times-cons line text (lines_in (xs ++ ys)))
-times-both line (SlotEnd time values ∷ xs) ys = times-both line xs ys
-times-both line (Dump command ∷ xs) ys = times-both line xs ys
-times-both line (Monitor place ∷ xs) ys = times-both line xs ys
+times-both line (one ∷ xs) ys = omega (arith, times-both line xs ys, times-cons line one xs, times-cons line one (xs ++ ys))
+
+times-cond : (line one : List ℕ) (more : List (List ℕ)) (w : Bool) →
+    times_in line (cond w (one ∷ more) more) ≡ cond w (times_in line (one ∷ more)) (times_in line more)
+times-cond line one more true = refl
+times-cond line one more false = refl
+
+whole_counts : (e w l : Bool) (t n : ℕ) → (e ≡ true → l ≡ w) → t ≡ cond l n 0 → cond w (cond e (suc t) t) t ≡ cond l (cond e (suc n) n) 0
+whole_counts true true true t n same is = ap suc is
+whole_counts true true false t n same is = let wrong : false ≡ true = same refl in cc
+whole_counts true false true t n same is = let wrong : true ≡ false = same refl in cc
+whole_counts true false false t n same is = is
+whole_counts false true true t n same is = is
+whole_counts false true false t n same is = is
+whole_counts false false true t n same is = is
+whole_counts false false false t n same is = is
+
+none_counts : (l : Bool) → 0 ≡ cond l 0 0
+none_counts true = refl
+none_counts false = refl
+
+-- the whole lines of a list are there as often as in the list
+times-whole : (line : List ℕ) (lines : List (List ℕ)) → times_in line (whole_lines lines) ≡ cond (is_whole line) (times_in line lines) 0
+times-whole line [] = none_counts (is_whole line)
+times-whole line (one ∷ lines) =
+    times-cond line one (whole_lines lines) (is_whole one)
+    ∙ whole_counts (pointwise nat_eq line one) (is_whole one) (is_whole line) (times_in line (whole_lines lines)) (times_in line lines)
+    (λ e. ap is_whole ((list_tells nat_eq unsigned_Decides line one).0 e)) (times-whole line lines)
+
+-- ---- the bag of what was printed
+
+record IsBagOf (printed : List ℕ) (bag : List (List ℕ)) : Type 0 where
+  times : (line : List ℕ) → times_in line bag ≡ times_in line (lines_of printed)
+  piece : piece_of bag ≡ piece_of (lines_of printed)
+
+bag-with_text : (text printed : List ℕ) (bag : List (List ℕ)) → IsBagOf printed bag → IsBagOf (printed ++ text) (with_text text bag)
+bag-with_text text printed bag is = record {
+  times = λ line.
+      omega (
+        arith,
+        times-with_each line (lines_of (piece_of bag ++ text)) (whole_lines bag),
+        times-whole line bag
+        ∙ ap (λ (n : ℕ). cond (is_whole line) n 0) (is.times line)
+        ∙ sym (times-whole line (lines_of printed)),
+        ap (λ (piece : List ℕ). times_in line (lines_of (piece ++ text))) is.piece,
+        ap (times_in line) (lines_of-append printed text),
+        times-both line (whole_lines (lines_of printed)) (lines_of (piece_of (lines_of printed) ++ text)),
+      );
+  piece = piece-with_text text printed bag is.piece;
+}
+
+bag-with_lines : (items : List Item) (printed : List ℕ) (bag : List (List ℕ)) → IsBagOf printed bag → IsBagOf (printed ++ printed_in items) (with_lines items bag)
+bag-with_lines [] printed bag is = subst (λ (x : List ℕ). IsBagOf x bag) (sym (append-nil printed)) is
+bag-with_lines (Line text ∷ items) printed bag is =
+    subst (λ (x : List ℕ). IsBagOf x (with_lines items (with_text text bag))) (append_assoc printed text (printed_in items))
+    (bag-with_lines items (printed ++ text) (with_text text bag) (bag-with_text text printed bag is))
+bag-with_lines (SlotEnd time values ∷ items) printed bag is = bag-with_lines items printed bag is
+bag-with_lines (Dump command ∷ items) printed bag is = bag-with_lines items printed bag is
+bag-with_lines (Monitor place ∷ items) printed bag is = bag-with_lines items printed bag is
+
+with_lines-both : (xs ys : List Item) (bag : List (List ℕ)) → with_lines (xs ++ ys) bag ≡ with_lines ys (with_lines xs bag)
+with_lines-both [] ys bag = refl
+with_lines-both (item ∷ xs) ys bag = with_lines-both xs ys (with_item item bag)
 
 -- ---- what a step gives
 
@@ -113,15 +170,15 @@ gives design transition =
     }
 
 -- a slot end prints nothing
-end_silent : (line : List ℕ) (s : State) → times_in line (lines_in (slot_end_of s)) ≡ 0
-end_silent line s = by_cause s.cause
+end_silent : (s : State) (bag : List (List ℕ)) → with_lines (slot_end_of s) bag ≡ bag
+end_silent s bag = by_cause s.cause
   where
-    by_idle : (active : List ℕ) (activated : List (List Part)) → times_in line (lines_in (idle_items active activated s.queue.time s.values)) ≡ 0
+    by_idle : (active : List ℕ) (activated : List (List Part)) → with_lines (idle_items active activated s.queue.time s.values) bag ≡ bag
     by_idle [] [] = refl
     by_idle [] (u ∷ us) = refl
     by_idle (p ∷ ps) us = refl
 
-    by_cause : (cause : Option Cause) → times_in line (lines_in (slot_end_by cause s)) ≡ 0
+    by_cause : (cause : Option Cause) → with_lines (slot_end_by cause s) bag ≡ bag
     by_cause (Some cause) = refl
     by_cause None = by_idle s.queue.active s.queue.activated
 
@@ -145,11 +202,27 @@ one_end s goes idle = (λ k. slot_end_by (goes k) s) ∙ (λ k. idle_items (idle
 
 -- ---- a slot goes on, or the next one begins
 
+-- the bag of a state is what the texts of its slot make of an empty one
+record HasSlot (s : State) (items : List Item) : Type 0 where
+  before : List Item
+  slot : List Item
+  slot_is : IsSlot s items before slot
+  printed : s.printed ≡ Some (with_lines slot [])
+
+told : (s : State) (items : List Item) → HasSlot s items → HasSlotLines s items
+told s items has = record {
+  before = has.before;
+  slot = has.slot;
+  slot_is = has.slot_is;
+  bag = with_lines has.slot [];
+  printed = has.printed;
+  times = (bag-with_lines has.slot [] [] (record { times = λ line. refl; piece = refl })).times;
+}
+
 -- a step within the slot, whose state before wasn't its end
-more : (s after : State) (items step : List Item) (slot : HasSlotLines s items) (given : Gives step (slot_end_of after)) (bag : List (List ℕ)) →
-    slot_end_of s ≡ [] → after.printed ≡ Some bag →
-    ((line : List ℕ) → times_in line bag ≡ times_in line (lines_in given.inner) + times_in line slot.bag) → HasSlotLines after (items ++ step)
-more s after items step slot given bag none printed times = record {
+more : (s after : State) (items step : List Item) (slot : HasSlot s items) (given : Gives step (slot_end_of after)) (bag : List (List ℕ)) →
+    slot_end_of s ≡ [] → after.printed ≡ Some bag → bag ≡ with_lines given.inner (with_lines slot.slot []) → HasSlot after (items ++ step)
+more s after items step slot given bag none printed is = record {
   before = slot.before;
   slot = slot.slot ++ given.inner;
   slot_is = record {
@@ -161,16 +234,13 @@ more s after items step slot given bag none printed times = record {
     within = within-both slot.slot given.inner slot.slot_is.within given.within;
     begins = slot.slot_is.begins;
   };
-  bag = bag;
-  printed = printed;
-  times = λ line. omega (arith, times line, slot.times line, times-both line slot.slot given.inner);
+  printed = printed ∙ ap Some (is ∙ sym (with_lines-both slot.slot given.inner []));
 }
 
 -- an advance, from the end of a slot
-anew : (s after : State) (items step : List Item) (time : ℕ) (values : List Vector) (slot : HasSlotLines s items) (given : Gives step (slot_end_of after))
-    (bag : List (List ℕ)) → slot_end_of s ≡ SlotEnd time values ∷ [] → after.printed ≡ Some bag →
-    ((line : List ℕ) → times_in line bag ≡ times_in line (lines_in given.inner)) → HasSlotLines after (items ++ step)
-anew s after items step time values slot given bag end printed times = record {
+anew : (s after : State) (items step : List Item) (time : ℕ) (values : List Vector) (slot : HasSlot s items) (given : Gives step (slot_end_of after))
+    (bag : List (List ℕ)) → slot_end_of s ≡ SlotEnd time values ∷ [] → after.printed ≡ Some bag → bag ≡ with_lines given.inner [] → HasSlot after (items ++ step)
+anew s after items step time values slot given bag end printed is = record {
   before = items;
   slot = given.inner;
   slot_is = record {
@@ -183,86 +253,76 @@ anew s after items step time values slot given bag end printed times = record {
       slot.slot_is.whole ∙ ap (λ (ends : List Item). slot.before ++ slot.slot ++ ends) end,
     );
   };
-  bag = bag;
-  printed = printed;
-  times = times;
+  printed = printed ∙ ap Some is;
 }
 
 -- ---- a step
 
--- what the step of a choice puts into the bag
-step_times : (design : Design) (s : State) (i : ℕ) (c : Choice) (bag : List (List ℕ)) (line : List ℕ)
+-- what the step of a choice makes of a bag
+step_bag : (design : Design) (s : State) (i : ℕ) (c : Choice) (bag : List (List ℕ))
     (given : Gives (items_of design (with_views design s i c (transition_of design c s))) (slot_end_of (with_views design s i c (transition_of design c s)).state)) →
-    times_in line (with_lines (items_of design (with_held_after s i c (transition_of design c s))) (lines_before c bag))
-    ≡ times_in line (lines_in given.inner) + times_in line (lines_before c bag)
-step_times design s i c bag line given =
+    with_lines (items_of design (with_held_after s i c (transition_of design c s))) bag ≡ with_lines given.inner bag
+step_bag design s i c bag given =
     let held = with_held_after s i c (transition_of design c s) in
     let after = with_views design s i c (transition_of design c s) in
     let seen : items_of design after ≡ items_of design held = items-seen held.state.held_back after.state.printed design held in
-    omega (
-      arith,
-      ap (λ (items : List Item). times_in line (with_lines items (lines_before c bag))) (sym seen ∙ given.is),
-      times-with_lines line (given.inner ++ slot_end_of after.state) (lines_before c bag),
-      times-both line given.inner (slot_end_of after.state),
-      end_silent line after.state,
-    )
+    ap (λ (items : List Item). with_lines items bag) (sym seen ∙ given.is)
+    ∙ with_lines-both given.inner (slot_end_of after.state) bag
+    ∙ end_silent after.state (with_lines given.inner bag)
 
-stepped : (design : Design) (s : State) (items : List Item) (i : ℕ) (c : Choice) → HasSlotLines s items → s.cause ≡ None → MayGo s.queue c →
-    HasSlotLines (with_views design s i c (transition_of design c s)).state (items ++ items_of design (with_views design s i c (transition_of design c s)))
+stepped : (design : Design) (s : State) (items : List Item) (i : ℕ) (c : Choice) → HasSlot s items → s.cause ≡ None → MayGo s.queue c →
+    HasSlot (with_views design s i c (transition_of design c s)).state (items ++ items_of design (with_views design s i c (transition_of design c s)))
 stepped design s items i c slot goes may = by c may
   where
     bag_after : (c : Choice) → List (List ℕ)
-    bag_after c = with_lines (items_of design (with_held_after s i c (transition_of design c s))) (lines_before c slot.bag)
+    bag_after c = with_lines (items_of design (with_held_after s i c (transition_of design c s))) (lines_before c (with_lines slot.slot []))
 
     printed : (c : Choice) → (with_views design s i c (transition_of design c s)).state.printed ≡ Some (bag_after c)
     printed c = ap (printed_after c (items_of design (with_held_after s i c (transition_of design c s)))) slot.printed
 
     by : (c : Choice) → MayGo s.queue c →
-        HasSlotLines (with_views design s i c (transition_of design c s)).state (items ++ items_of design (with_views design s i c (transition_of design c s)))
+        HasSlot (with_views design s i c (transition_of design c s)).state (items ++ items_of design (with_views design s i c (transition_of design c s)))
     by (Run p) active =
         let after = with_views design s i (Run p) (transition_of design (Run p) s) in
         let given = gives design after in
         more s after.state items (items_of design after) slot given (bag_after (Run p))
-        (no_end s (λ idle. absurd (subst (IsIn p) idle.0 active))) (printed (Run p))
-        (λ line. step_times design s i (Run p) slot.bag line given)
+        (no_end s (λ idle. absurd (subst (IsIn p) idle.0 active))) (printed (Run p)) (step_bag design s i (Run p) (with_lines slot.slot []) given)
     by Update some =
         let after = with_views design s i Update (transition_of design Update s) in
         let given = gives design after in
         more s after.state items (items_of design after) slot given (bag_after Update)
-        (no_end s (λ idle. some idle.1)) (printed Update)
-        (λ line. step_times design s i Update slot.bag line given)
+        (no_end s (λ idle. some idle.1)) (printed Update) (step_bag design s i Update (with_lines slot.slot []) given)
     by Advance allowed =
         let after = with_views design s i Advance (transition_of design Advance s) in
         let given = gives design after in
         anew s after.state items (items_of design after) s.queue.time s.values slot given (bag_after Advance)
-        (one_end s goes allowed.0) (printed Advance)
-        (λ line.
-        (let put : times_in line (bag_after Advance) ≡ times_in line (lines_in given.inner) + 0 = step_times design s i Advance slot.bag line given in
-        omega (arith, put)))
+        (one_end s goes allowed.0) (printed Advance) (step_bag design s i Advance [] given)
 
 -- ---- the run
 
-opened : (setting : Setting) → printed_at_first setting.looked ≡ Some [] → HasSlotLines (opening_of setting) (slot_end_of (opening_of setting))
+opened : (setting : Setting) → printed_at_first setting.looked ≡ Some [] → HasSlot (opening_of setting) (slot_end_of (opening_of setting))
 opened setting looks = record {
   before = [];
   slot = [];
   slot_is = record { whole = refl; within = tt; begins = inl refl };
-  bag = [];
   printed = looks;
-  times = λ line. refl;
 }
 
-pub holds_slot_lines : IsAlwaysKept → (setting : Setting) (log : List (ℕ × ℕ)) (n : ℕ) → setting.looked ≡ Lines → IsRun (rules_of setting) log n →
-    HasSlotLines (state_after setting log n) (items_after setting log n)
-holds_slot_lines keeps setting log zero looks run =
-    subst (λ (s : State). HasSlotLines s (items_after setting log 0)) (sym (opening_is setting)) (opened setting (ap printed_at_first looks))
-holds_slot_lines keeps setting log (suc n) looks run =
+has_slot : IsAlwaysKept → (setting : Setting) (log : List (ℕ × ℕ)) (n : ℕ) → setting.looked ≡ Lines → IsRun (rules_of setting) log n →
+    HasSlot (state_after setting log n) (items_after setting log n)
+has_slot keeps setting log zero looks run =
+    subst (λ (s : State). HasSlot s (items_after setting log 0)) (sym (opening_is setting)) (opened setting (ap printed_at_first looks))
+has_slot keeps setting log (suc n) looks run =
     let s = state_after setting log n in
     let i = choice_at log n in
     let items = items_after setting log n in
     let at = listed_place (choices s) i (omega (arith, run n (omega arith), width_is setting s)) in
     let may = may_go s i at.0 (keeps setting log n) at.1 in
-    let now : HasSlotLines (next setting.design s i).state (items ++ items_of setting.design (next setting.design s i)) =
-    subst (λ (o : Option Choice). HasSlotLines (transition_by setting.design s i o).state (items ++ items_of setting.design (transition_by setting.design s i o))) (sym at.1)
-    (stepped setting.design s items i at.0 (holds_slot_lines keeps setting log n looks (λ k lt. run k (omega (arith, lt)))) may.0 may.1) in
-    subst (λ (x : State). HasSlotLines x (items ++ items_of setting.design (next setting.design s i))) (sym (after_is setting s i)) now
+    let now : HasSlot (next setting.design s i).state (items ++ items_of setting.design (next setting.design s i)) =
+    subst (λ (o : Option Choice). HasSlot (transition_by setting.design s i o).state (items ++ items_of setting.design (transition_by setting.design s i o))) (sym at.1)
+    (stepped setting.design s items i at.0 (has_slot keeps setting log n looks (λ k lt. run k (omega (arith, lt)))) may.0 may.1) in
+    subst (λ (x : State). HasSlot x (items ++ items_of setting.design (next setting.design s i))) (sym (after_is setting s i)) now
+
+pub holds_slot_lines : IsAlwaysKept → (setting : Setting) (log : List (ℕ × ℕ)) (n : ℕ) → setting.looked ≡ Lines → IsRun (rules_of setting) log n →
+    HasSlotLines (state_after setting log n) (items_after setting log n)
+holds_slot_lines keeps setting log n looks run = told (state_after setting log n) (items_after setting log n) (has_slot keeps setting log n looks run)

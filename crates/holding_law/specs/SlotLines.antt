@@ -2,6 +2,7 @@
 -- given to its history shows them.
 use Rattle.std.specs.Prelude.{◌≡◌, ◌⊎◌, ℕ, suc, if◌then◌else◌, nat_eq, List, [], ◌∷◌, ◌++◌, Some}
 use Rattle.std.specs.Cmp.Lexicographic.{pointwise}
+use Rattle.sched_core.specs.Bags.{lines_of}
 use Rattle.vbits.specs.Vectors.{Vector}
 use Rattle.vmodel.specs.declared.history.Item.{Item}
 use Rattle.vmodel.specs.declared.history.Item.TheVariants.{SlotEnd, Dump, Line, Monitor}
@@ -13,13 +14,13 @@ abbrev pub times_in : List ℕ → List (List ℕ) → ℕ
 times_in line [] = 0
 times_in line (one ∷ more) = if pointwise nat_eq line one then suc (times_in line more) else times_in line more
 
--- what these items print, by `$display` or `$strobe`
-abbrev pub lines_in : List Item → List (List ℕ)
-lines_in [] = []
-lines_in (Line text ∷ items) = text ∷ lines_in items
-lines_in (SlotEnd time values ∷ items) = lines_in items
-lines_in (Dump command ∷ items) = lines_in items
-lines_in (Monitor place ∷ items) = lines_in items
+-- all that these items print, by `$display`, `$write` or `$strobe`, in this order
+abbrev pub printed_in : List Item → List ℕ
+printed_in [] = []
+printed_in (Line text ∷ items) = text ++ printed_in items
+printed_in (SlotEnd time values ∷ items) = printed_in items
+printed_in (Dump command ∷ items) = printed_in items
+printed_in (Monitor place ∷ items) = printed_in items
 
 -- none of these items ends a slot
 abbrev pub AreWithin : List Item → Type 0
@@ -39,11 +40,11 @@ pub record IsSlot (s : State) (items before slot : List Item) : Type 0 where
   pub within : AreWithin slot
   pub begins : (before ≡ []) ⊎ EndsSlot before
 
--- the bag has each line as often as the slot has printed it
+-- the bag has each line as often as it stands in what the slot has printed, cut at its line feeds
 pub record HasSlotLines (s : State) (items : List Item) : Type 0 where
   pub before : List Item
   pub slot : List Item
   pub slot_is : IsSlot s items before slot
   pub bag : List (List ℕ)
   pub printed : s.printed ≡ Some bag
-  pub times : (line : List ℕ) → times_in line bag ≡ times_in line (lines_in slot)
+  pub times : (line : List ℕ) → times_in line bag ≡ times_in line (lines_of (printed_in slot))

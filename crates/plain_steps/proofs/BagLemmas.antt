@@ -1,6 +1,6 @@
 -- The lines of a slot's bag stay in order.
 use Rattle.std.proofs.Common.{ℕ, List, [], ◌∷◌}
-use Rattle.sched_core.proofs.BagLemmas.{with_line-order}
+use Rattle.sched_core.proofs.BagLemmas.{with_text-order}
 use Rattle.sched_core.specs.Bags.{AreLinesInOrder}
 use Rattle.vmodel.specs.declared.history.Item.{Item}
 use Rattle.vmodel.specs.declared.history.Item.TheVariants.{SlotEnd, Dump, Line, Monitor}
@@ -9,7 +9,7 @@ use Rattle.vmodel.specs.declared.choice.Choice.TheVariants.{Run, Update, Advance
 use Rattle.vmodel.specs.Printed.{with_item, with_lines, lines_before}
 
 with_item-order : (item : Item) (bag : List (List ℕ)) → AreLinesInOrder bag → AreLinesInOrder (with_item item bag)
-with_item-order (Line text) bag order = with_line-order text bag order
+with_item-order (Line text) bag order = with_text-order text bag order
 with_item-order (SlotEnd time values) bag order = order
 with_item-order (Dump command) bag order = order
 with_item-order (Monitor place) bag order = order

@@ -9,24 +9,24 @@ use std::alloc::Global;
 use vmodel::choice::Choice;
 use vmodel::history::Item;
 
-// The bag with this item, where it is a line.
-fn insert_item(bag: &mut Bag, item: &Item) -> Result<(), NoMemory>
+// The bag with this item, where it is a text that was printed.
+fn print_item(bag: &mut Bag, item: &Item) -> Result<(), NoMemory>
     ensures { OnOk result (bag.new ≡ with_item item.now bag.old) }
 {
     match item {
-        Item::Line(text) => bag.insert(text.as_bytes()),
+        Item::Line(text) => bag.print(text.as_bytes()),
         Item::SlotEnd { .. } => Ok(()),
         Item::Dump(_) => Ok(()),
         Item::Monitor(_) => Ok(()),
     }
 }
 
-// The bag with the lines among these items.
+// The bag with the texts among these items.
 fn insert_items(bag: &mut Bag, items: &[Item]) -> Result<(), NoMemory>
     ensures { OnOk result (bag.new ≡ with_lines items.now bag.old) }
 {
     for item in items {
-        insert_item(bag, item)?;
+        print_item(bag, item)?;
     }
     Ok(())
 }

@@ -5,3 +5,5 @@ pub mod HeadLemmas
 pub mod RunLemmas
 pub mod OneLemmas
 pub mod BagLemmas
+pub mod CutLemmas
+pub mod PieceLemmas

@@ -1,15 +1,16 @@
 // The lines of a time slot, as a bag in the order of their bytes (IEEE 1364-2005, 17.1.1, 17.1.2).
 
 ghost use Rattle.std.specs.Prelude.{◌≡◌, ◌≤◌, ◌++◌, ◌∷◌, [], length, IfOk, OnOk, OnErr};
-ghost use Rattle.std.specs.Ordering.{nat_cmp};
+ghost use Rattle.std.specs.Ordering.{nat_cmp, is_lt};
 ghost use Rattle.std.specs.Cmp.Lexicographic.{slice_cmp};
-ghost use Rattle.sched_core.specs.Bags.{with_line, AreLinesInOrder};
-ghost use Rattle.sched_core.specs.Inner.Bags.{place_of_line};
+ghost use Rattle.sched_core.specs.Bags.{with_line, is_whole, lines_of, whole_lines, piece_of, with_each, with_text, AreLinesInOrder};
+ghost use Rattle.sched_core.specs.Inner.Bags.{IsBehind, IsBefore, HasNoFeed};
 
 use basis::NoMemory;
 use std::alloc::Global;
 use std::cmp::Ordering;
 use std::marker::Model;
+use std::mem::replace;
 use std::sync::ArcSlice;
 
 /// A line as it was printed, with its line feed. Its bytes never change, and bags share them. A clause sees the bytes.
@@ -115,14 +116,19 @@ impl PrintedLine {
 #[derive(Drop)]
 pub struct Bag {
     lines: Vec<PrintedLine>,
+    // whether a line may stand there that no line feed has ended yet
+    has_piece: bool,
 }
 
 impl Model for Bag {
-    ghost use Rattle.std.specs.Prelude.{ℕ, List};
+    ghost use Rattle.std.specs.Prelude.{◌≡◌, ℕ, false, List, []};
+    ghost use Rattle.sched_core.specs.Bags.{AreLinesInOrder, pieces_of};
 
     ghost Value = { List (List ℕ) };
 
     ghost view = { λ bag. bag.lines.items };
+
+    ghost invariant = { λ bag. AreLinesInOrder bag.lines.items × (bag.has_piece ≡ false → pieces_of bag.lines.items ≡ []) };
 }
 
 /// Two are equal where they have the same lines, each as often.
@@ -179,27 +185,67 @@ impl Ord for Bag {
     }
 }
 
-// How the bytes of a line compare with those of another.
-fn compare(line: &[u8], other: &[u8]) -> Ordering
-    ensures { result ≡ slice_cmp nat_cmp line.now other.now }
+// Whether a line stands before another.
+fn is_before(line: &[u8], other: &[u8]) -> bool
+    ensures { result ≡ is_lt (slice_cmp nat_cmp line.now other.now) }
 {
-    line.cmp(other)
+    line.cmp(other) == Ordering::Less
 }
 
-// How many lines stand before a new one: those that are less.
+// Where a new line goes: behind all that aren't greater. So a line that repeats goes behind the others, without moving one.
 fn place_among(lines: &[PrintedLine], line: &[u8]) -> usize
-    ensures exact { result ≡ place_of_line line.now lines.now }
+    requires { AreLinesInOrder lines.now }
     ensures within { result ≤ length lines.now }
+    ensures behind { IsBehind line.now lines.now result }
+    ensures before { IsBefore line.now lines.now result }
 {
-    let mut place = 0;
-    for other in lines {
-        match compare(line, other.as_bytes()) {
-            Ordering::Greater => place += 1,
-            Ordering::Equal => return place,
-            Ordering::Less => return place,
+    let mut low = 0;
+    let mut high = lines.len();
+    while low < high {
+        let middle = low + (high - low) / 2;
+        if is_before(line, lines[middle].as_bytes()) {
+            high = middle;
+        } else {
+            low = middle + 1;
         }
     }
-    place
+    low
+}
+
+// Whether a line feed ends the line.
+fn is_ended(line: &[u8]) -> bool
+    ensures { result ≡ is_whole line.now }
+{
+    match line.last() {
+        Some(byte) => *byte == b'\n',
+        None => false,
+    }
+}
+
+// What no line feed has ended yet.
+fn piece_among(alloc: Global, lines: &[PrintedLine]) -> Result<Vec<u8>, NoMemory>
+    ensures { IfOk result (λ piece. piece.items ≡ piece_of lines.now) }
+{
+    let mut piece = Vec::new(alloc);
+    for line in lines {
+        if !is_ended(line.as_bytes()) {
+            piece.extend_from_slice(line.as_bytes())?;
+        }
+    }
+    Ok(piece)
+}
+
+// The lines that a line feed ends.
+fn ended_lines(alloc: Global, lines: Vec<PrintedLine>) -> Result<Vec<PrintedLine>, NoMemory>
+    ensures { IfOk result (λ ended. ended.items ≡ whole_lines lines.items) }
+{
+    let mut ended = Vec::new(alloc);
+    for line in lines {
+        if is_ended(line.as_bytes()) {
+            ended.push(line)?;
+        }
+    }
+    Ok(ended)
 }
 
 fn copy_lines(alloc: Global, lines: &[PrintedLine]) -> Result<Vec<PrintedLine>, NoMemory>
@@ -219,18 +265,72 @@ impl Bag {
     {
         Bag {
             lines: Vec::new(alloc),
+            has_piece: false,
         }
     }
 
-    /// The bag with one line more. After want of memory it is as it was.
-    pub fn insert(&mut self, line: &[u8]) -> Result<(), NoMemory>
-        ensures ok { OnOk result (self.new ≡ with_line line.now self.old) }
-        ensures err { OnErr result (self.new ≡ self.old) }
+    // The bag with one line more.
+    fn insert(&mut self, line: &[u8]) -> Result<(), NoMemory>
+        ensures { OnOk result (self.new ≡ with_line line.now self.old) }
     {
         let alloc = *self.lines.allocator();
         let place = place_among(&self.lines, line);
         self.lines.insert(place, PrintedLine::new(alloc, line)?)?;
+        if !is_ended(line) {
+            self.has_piece = true;
+        }
         Ok(())
+    }
+
+    // The bag with the last line of a text, where no line feed ends it.
+    fn insert_rest(&mut self, line: &[u8]) -> Result<(), NoMemory>
+        requires { HasNoFeed line.now }
+        ensures { OnOk result (self.new ≡ with_each (lines_of line.now) self.old) }
+    {
+        if line.is_empty() {
+            return Ok(());
+        }
+        self.insert(line)
+    }
+
+    // The bag with the lines of a text.
+    fn insert_lines(&mut self, text: &[u8]) -> Result<(), NoMemory>
+        ensures { OnOk result (self.new ≡ with_each (lines_of text.now) self.old) }
+    {
+        let mut line = Vec::new(*self.lines.allocator());
+        for byte in text {
+            line.push(*byte)?;
+            if *byte == b'\n' {
+                self.insert(&line)?;
+                line.clear();
+            }
+        }
+        self.insert_rest(&line)
+    }
+
+    // Takes what no line feed has ended yet out of the bag.
+    fn take_piece(&mut self) -> Result<Vec<u8>, NoMemory>
+        ensures piece { IfOk result (λ piece. piece.items ≡ piece_of self.old) }
+        ensures rest { OnOk result (self.new ≡ whole_lines self.old) }
+    {
+        let alloc = *self.lines.allocator();
+        let piece = piece_among(alloc, &self.lines)?;
+        let lines = replace(&mut self.lines, Vec::new(alloc));
+        self.lines = ended_lines(alloc, lines)?;
+        self.has_piece = false;
+        Ok(piece)
+    }
+
+    /// The bag of a slot that prints this text, behind what it printed last. After want of memory the bag means nothing.
+    pub fn print(&mut self, text: &[u8]) -> Result<(), NoMemory>
+        ensures { OnOk result (self.new ≡ with_text text.now self.old) }
+    {
+        if !self.has_piece {
+            return self.insert_lines(text);
+        }
+        let mut line = self.take_piece()?;
+        line.extend_from_slice(text)?;
+        self.insert_lines(&line)
     }
 
     /// The bag with one line more, none of whose lines is greater. After want of memory it is as it was.
@@ -241,6 +341,9 @@ impl Bag {
     {
         let alloc = *self.lines.allocator();
         self.lines.push(PrintedLine::new(alloc, line)?)?;
+        if !is_ended(line) {
+            self.has_piece = true;
+        }
         Ok(())
     }
 
@@ -249,6 +352,7 @@ impl Bag {
         ensures { self.new ≡ [] }
     {
         self.lines.clear();
+        self.has_piece = false;
     }
 
     /// A bag of the same lines.
@@ -257,6 +361,7 @@ impl Bag {
     {
         Ok(Bag {
             lines: copy_lines(alloc, &self.lines)?,
+            has_piece: self.has_piece,
         })
     }
 

@@ -1,20 +1,20 @@
 -- *product rule*: The lines that steps put into the bag of their time slot (IEEE 1364-2005, 17.1.1, 17.1.2; docs/SCHEDULING.md,
--- "Lines of a slot"): in which order processes print doesn't count.
+-- "Lines of a slot"): in which order processes print whole lines doesn't count.
 use Rattle.std.specs.Prelude.{ℕ, List, [], ◌∷◌, Option, Some, None}
-use Rattle.sched_core.specs.Bags.{with_line}
+use Rattle.sched_core.specs.Bags.{with_text}
 use Rattle.vmodel.specs.declared.history.Item.{Item}
 use Rattle.vmodel.specs.declared.history.Item.TheVariants.{SlotEnd, Dump, Line, Monitor}
 use Rattle.vmodel.specs.declared.choice.Choice.{Choice}
 use Rattle.vmodel.specs.declared.choice.Choice.TheVariants.{Run, Update, Advance}
 
--- 17.1.1, 17.1.2: a bag with this item, where it is a line, of `$display` or `$strobe`
+-- 17.1.1, 17.1.2: a bag with this item, where it is a text, of `$display`, `$write` or `$strobe`
 abbrev pub with_item : Item → List (List ℕ) → List (List ℕ)
-with_item (Line text) bag = with_line text bag
+with_item (Line text) bag = with_text text bag
 with_item (SlotEnd time values) bag = bag
 with_item (Dump command) bag = bag
 with_item (Monitor place) bag = bag
 
--- a bag with the lines among these items
+-- a bag with the texts among these items
 abbrev pub with_lines : List Item → List (List ℕ) → List (List ℕ)
 with_lines [] bag = bag
 with_lines (item ∷ items) bag = with_lines items (with_item item bag)

@@ -4,7 +4,7 @@ use Rattle.holding_law.proofs.LastLemmas.{default_is_free}
 use Rattle.holding_law.proofs.ActionLemmas.{has_actions}
 use Rattle.holding_law.proofs.HoldLemmas.{can_hold}
 use Rattle.holding_law.proofs.TakingLemmas.{holding_is_taking}
-use Rattle.holding_law.proofs.LineLemmas.{unordered}
+use Rattle.holding_law.proofs.LineLemmas.{unordered, prints_unordered}
 use Rattle.holding_law.proofs.SlotLemmas.{holds_slot_lines}
 use Rattle.holding_law.proofs.holding_law.Goals as goal
 
@@ -21,4 +21,5 @@ returns c = record {
   taken = taken_released;
   lines = holds_slot_lines c.run_law.ensures.kept;
   unordered = unordered;
+  printed = prints_unordered;
 }

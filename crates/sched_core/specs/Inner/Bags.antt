@@ -1,17 +1,18 @@
--- *internal*: Where a bag's new line goes.
-use Rattle.std.specs.Prelude.{ℕ, zero, suc, List, [], ◌∷◌}
+-- *internal*: Where a bag's new line goes, and lines as they are gathered.
+use Rattle.std.specs.Prelude.{◌≡◌, ◌≢◌, ℕ, ◌<◌, ◌≤◌, false, List, [], ◌∷◌, slice_get, Some, nat_eq}
 use Rattle.std.specs.Ordering.{nat_cmp}
 use Rattle.std.specs.Cmp.Lexicographic.{slice_cmp}
-use Rattle.std.specs.declared.cmp.Ordering.{Ordering}
-use Rattle.std.specs.declared.cmp.Ordering.TheVariants.{Less, Equal, Greater}
+use Rattle.std.specs.declared.cmp.Ordering.TheVariants.{Less}
 
--- one place more before a line that is less
-abbrev pub place_behind : Ordering → ℕ → ℕ
-place_behind Greater n = suc n
-place_behind Equal n = zero
-place_behind Less n = zero
+-- the line is less than none of the first k
+abbrev pub IsBehind : List ℕ → List (List ℕ) → ℕ → Type 0
+IsBehind line lines k = (j : ℕ) (other : List ℕ) → j < k → slice_get lines j ≡ Some other → slice_cmp nat_cmp line other ≢ Less
 
--- how many lines stand before a new one
-abbrev pub place_of_line : List ℕ → List (List ℕ) → ℕ
-place_of_line line [] = zero
-place_of_line line (first ∷ rest) = place_behind (slice_cmp nat_cmp line first) (place_of_line line rest)
+-- it is less than all others
+abbrev pub IsBefore : List ℕ → List (List ℕ) → ℕ → Type 0
+IsBefore line lines k = (j : ℕ) (other : List ℕ) → k ≤ j → slice_get lines j ≡ Some other → slice_cmp nat_cmp line other ≡ Less
+
+-- no byte of it is a line feed
+abbrev pub HasNoFeed : List ℕ → Type 0
+HasNoFeed [] = Unit {0}
+HasNoFeed (byte ∷ more) = (nat_eq byte 10 ≡ false) × HasNoFeed more

@@ -1,8 +1,9 @@
-use Rattle.std.proofs.Common.{◌≡◌, ◌+◌, drop}
-use Rattle.sched_core.specs.Inner.Bags.{place_of_line}
+use Rattle.std.proofs.Common.{◌≤◌, ◌-◌, length}
+use Rattle.sched_core.specs.Inner.Bags.{IsBehind, IsBefore}
 use Rattle.sched_core.proofs.bag.place_among.Given as goal
 
-abbrev pub invariant-loop-other : goal.invariant-loop-other
-invariant-loop-other l =
-    (l.place ≡ l.other-index)
-    × (l.place + place_of_line l.line (drop l.other-index l.lines) ≡ place_of_line l.line l.lines)
+abbrev pub invariant-loop-low : goal.invariant-loop-low
+invariant-loop-low l = (l.low ≤ l.high) × (l.high ≤ length l.lines) × IsBehind l.line l.lines l.low × IsBefore l.line l.lines l.high
+
+abbrev pub decreases-loop-low : goal.decreases-loop-low
+decreases-loop-low l = l.high - l.low
