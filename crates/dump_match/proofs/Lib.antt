@@ -4,3 +4,4 @@ mod UnderWayLemmas
 mod ReadLemmas
 mod CountLemmas
 mod KnownLemmas
+mod ComparedLemmas

@@ -43,7 +43,7 @@ ahead_in reference = reference.slots.ahead
 abbrev pub ExplainsDumps : {R : Type 0} → (R → Option (List ℕ)) → ℕ → PairReference (DumpReference R) → PairReference (DumpReference R) →
     Explanation MachineState → Type 0
 ExplainsDumps remaining most old new =
-    ExplainsBoth (machine_rules old.first.machine.now) (rank_of old.first.machine.now) most piece_in (Reads remaining) IsAtItsEnd old new
+    ExplainsBoth (machine_rules old.first.machine.now) (rank_of old.first.machine.now) most piece_in ahead_in (Reads remaining) IsAtItsEnd old new
 
 -- no run explains both up to the time
 abbrev pub PartsDumps : {R : Type 0} → (R → Option (List ℕ)) → ℕ → PairReference (DumpReference R) → PairReference (DumpReference R) →

@@ -13,7 +13,7 @@ use Rattle.vcd_slots.specs.Standing.{Reads as ReadsUpTo}
 use Rattle.vcd_slots.specs.Units.{units_of}
 use Rattle.vcd_slots.specs.declared.slots.DumpSlots.{DumpSlots}
 use Rattle.dump_match.specs.Scopes.{is_wrapped}
-use Rattle.dump_match.specs.Named.{AreNamedSo}
+use Rattle.dump_match.specs.Named.{AreAllCompared, AreNamedSo}
 use Rattle.dump_match.specs.Pieces.{OpensFrom}
 use Rattle.dump_match.specs.Known.{AreMarked, has_value_in}
 use Rattle.dump_match.specs.declared.dump.DumpReference.{DumpReference}
@@ -24,7 +24,7 @@ abbrev pub told_unit : Timescale → Option Span → Option Span
 told_unit scale unit = if is_like scale usual_timescale then None else unit
 
 -- The words of the reader declare the unit of times and variables, of which those are compared that have the name of a variable of the machine
--- and as many bits; then come the items up to the first time, and if that is 0, those of it, with times in the unit of the machine's. The
+-- and as many bits, each of the machine's with one of them; then come the items up to the first time, and if that is 0, those of it, with times in the unit of the machine's. The
 -- pairs are marked that have a value then.
 pub record OpensDump {R : Type 0} (remaining : R → Option (List ℕ)) (reader : R) (reference : DumpReference R) : Type 0 where
   pub dump : VcdReader R
@@ -38,6 +38,8 @@ pub record OpensDump {R : Type 0} (remaining : R → Option (List ℕ)) (reader 
   pub opens : OpensFrom remaining begun reference.slots
   pub named : AreNamedSo (is_wrapped reference.machine.now.design.top dump.variables.items) reference.machine.now.design.variables dump.variables.items
       reference.slots.columns.watched.items reference.comparison.pairs.items
+  pub all : AreAllCompared (is_wrapped reference.machine.now.design.top dump.variables.items) reference.machine.now.design.variables
+      dump.variables.items reference.comparison.pairs.items
   pub len : length reference.known.items ≡ length reference.comparison.pairs.items
   pub marked : AreMarked (replicate (length reference.comparison.pairs.items) false) reference.known.items
       (has_value_in reference.comparison.pairs.items reference.slots)

@@ -1,11 +1,15 @@
 // Which variables stand in the files and in a dump.
 
-ghost use Rattle.std.specs.Prelude.{◌≡◌, [], true, Bool, List, IfOk, OnOk};
+ghost use Rattle.std.specs.Prelude.{◌≡◌, ◌≤◌, [], true, ℕ, Bool, List, Some, length, IfOk, OnOk};
+ghost use Rattle.std.specs.BTreeMap.{get_by};
+ghost use Rattle.std.specs.Cmp.Lexicographic.{slice_cmp};
+ghost use Rattle.std.specs.Ordering.{nat_cmp};
 ghost use Rattle.vdesign.specs.Design as design;
 ghost use Rattle.vcd_read.specs.declared.header.VcdVariable as header;
 ghost use Rattle.vcd_slots.specs.Following.{IsFresh, IsSound};
 ghost use Rattle.dump_match.specs.Scopes.{compared_name, is_wrapped};
-ghost use Rattle.dump_match.specs.Named.{AreNamedSo, IfSame, IsDeclared, IsLike, KeepsNamed};
+ghost use Rattle.dump_match.specs.Named.{AreAllCompared, AreMet, AreNamedSo, FindsLast, IfSame, IsCompared, IsDeclared, IsLike};
+ghost use Rattle.dump_match.specs.Named.{KeepsCompared, KeepsNamed, MeetsAt, TakesMore};
 
 use crate::scopes::{behind_outermost, is_wrapped, scope_round};
 use basis::NoMemory;
@@ -72,10 +76,15 @@ enum Meeting {
 }
 
 // The numbers of variables by their names.
-fn numbers_of(alloc: Global, variables: &[Variable]) -> Result<BTreeMap<Vec<u8>, usize>, NoMemory> {
-    let mut numbers = BTreeMap::new(alloc);
+fn numbers_of<'v>(
+    alloc: Global,
+    variables: &'v [Variable],
+) -> Result<BTreeMap<&'v [u8], usize>, NoMemory>
+    ensures { IfOk result (λ numbers. FindsLast variables.now (λ name. get_by (λ k. slice_cmp nat_cmp name k.now) numbers)) }
+{
+    let mut numbers: BTreeMap<&'v [u8], usize> = BTreeMap::new(alloc);
     for (number, variable) in variables.iter().enumerate() {
-        numbers.insert(Vec::from_slice(alloc, &variable.name)?, number)?;
+        numbers.insert(&variable.name, number)?;
     }
     Ok(numbers)
 }
@@ -98,7 +107,8 @@ fn likeness_of(
     number: Option<usize>,
     told: &VcdVariable,
 ) -> Likeness
-    ensures { IfSame result (IsLike wrapped variables.now told.now) }
+    ensures like { IfSame result (IsLike wrapped variables.now told.now) }
+    ensures same { (n : ℕ) → number ≡ Some n → IsLike wrapped variables.now told.now n → result ≡ Likeness.Same n }
 {
     let Some(number) = number else {
         return Likeness::Unknown;
@@ -138,14 +148,17 @@ fn put_met(
 }
 
 // The next variable of the dump that a variable of the files meets.
-fn meet(met: &mut [Meeting], number: usize, meeting: Meeting) -> Meeting {
-    match met.get_mut(number) {
-        None => Meeting::Compared,
-        Some(place) => {
-            let before = *place;
-            if before != Meeting::Compared {
-                *place = meeting;
-            }
+fn meet(met: &mut [Meeting], number: usize, meeting: Meeting) -> Meeting
+    ensures { MeetsAt met.old met.new number meeting result }
+{
+    if number >= met.len() {
+        return Meeting::Compared;
+    }
+    let before = met[number];
+    match before {
+        Meeting::Compared => Meeting::Compared,
+        _ => {
+            met[number] = meeting;
             before
         }
     }
@@ -180,6 +193,8 @@ impl Comparison {
         ensures named { (wrapped : Bool) (variables : List design.Variable) (declared : List header.VcdVariable) →
             IsLike wrapped variables told.now variable → IsDeclared declared told.now →
             OnOk result (KeepsNamed wrapped variables declared columns.old columns.new self.old.pairs.items self.new.pairs.items) }
+        ensures keeps { OnOk result (KeepsCompared self.old.pairs.items self.new.pairs.items) }
+        ensures compared { OnOk result (1 ≤ told.now.width → told.now.width ≤ 64 → IsCompared self.new.pairs.items variable) }
     {
         match columns.watch(alloc, told)? {
             None => push_name(alloc, &mut self.only_in_dump, &told.name),
@@ -205,6 +220,10 @@ impl Comparison {
         ensures named { (wrapped : Bool) (variables : List design.Variable) (declared : List header.VcdVariable) →
             IfSame likeness (IsLike wrapped variables told.now) → IsDeclared declared told.now →
             OnOk result (KeepsNamed wrapped variables declared columns.old columns.new self.old.pairs.items self.new.pairs.items) }
+        ensures len { length met.new ≡ length met.old }
+        ensures takes { (wrapped : Bool) (variables : List design.Variable) →
+            IfSame likeness (IsLike wrapped variables told.now) → AreMet wrapped variables met.old self.old.pairs.items →
+            OnOk result (TakesMore wrapped variables told.now likeness met.old met.new self.old.pairs.items self.new.pairs.items) }
     {
         match likeness {
             Likeness::Unknown => push_name(alloc, &mut self.only_in_dump, &told.name),
@@ -235,13 +254,14 @@ impl Comparison {
         ensures fresh { IfOk result (λ _. IsFresh columns.new) }
         ensures named { IfOk result (λ comparison.
             AreNamedSo wrapped variables.now declared.now columns.new.watched.items comparison.pairs.items) }
+        ensures all { IfOk result (λ comparison. AreAllCompared wrapped variables.now declared.now comparison.pairs.items) }
     {
         let numbers = numbers_of(alloc, variables)?;
         let mut met = Vec::new(alloc);
         met.resize(variables.len(), Meeting::Unmet)?;
         let mut comparison = Comparison::none(alloc);
         for told in declared {
-            let number = numbers.get(compared_name(wrapped, &told.name)).copied();
+            let number = numbers.get(&compared_name(wrapped, &told.name)).copied();
             let likeness = likeness_of(wrapped, variables, number, told);
             comparison.take(alloc, columns, told, likeness, &mut met)?;
         }
@@ -275,6 +295,8 @@ impl Comparison {
         ensures fresh { IfOk result (λ _. IsFresh columns.new) }
         ensures named { IfOk result (λ comparison. AreNamedSo (is_wrapped design.now.top declared.now) design.now.variables
             declared.now columns.new.watched.items comparison.pairs.items) }
+        ensures all { IfOk result (λ comparison. AreAllCompared (is_wrapped design.now.top declared.now) design.now.variables declared.now
+            comparison.pairs.items) }
     {
         let wrapped = is_wrapped(&design.top, declared);
         let mut comparison = Comparison::among(

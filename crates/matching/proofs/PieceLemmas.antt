@@ -1,7 +1,11 @@
 -- What pieces that were read one after another show.
-use Rattle.std.proofs.Common.{◌≡◌, ℕ, ◌<◌, ◌≤◌, max, nat_lt, true, false, if◌then◌else◌, List, [], ◌∷◌, ◌++◌, arith, ap, refl, sym, ◌∙◌}
+use Rattle.std.proofs.Common.{◌≡◌, ℕ, ◌<◌, ◌≤◌, max, nat_lt, true, false, if◌then◌else◌, List, [], ◌∷◌, ◌++◌, zero, suc, inl, inr, arith, ap, refl, sym, ◌∙◌}
+use Rattle.std.specs.Prelude.{slice_get, Some}
 use Rattle.std.proofs.lemmas.Bool.Decides.{nat_tests}
-use Rattle.matching.specs.Answers.{ReadsMore}
+use Rattle.std.proofs.lemmas.List.{length-append}
+use Rattle.std.proofs.lemmas.Option.{none-some, same_Some}
+use Rattle.basis.proofs.Lists.{last_or_before}
+use Rattle.matching.specs.Answers.{HaveComeButLast, ReadsMore}
 use Rattle.matching.specs.Explained.{Piece, differ_at, latest_time}
 use Rattle.matching.specs.Inner.Reading.{HasRead, last_piece}
 
@@ -30,6 +34,21 @@ pub latest_time-more : {S : Type 0} (start : ℕ) (ps : List (Piece S)) (p : Pie
     latest_time start (ps ++ p ∷ []) ≡ max (latest_time start ps) p.from
 latest_time-more start [] p = refl
 latest_time-more start (q ∷ ps) p = latest_time-more (max start q.from) ps p
+
+-- each of them has come by then
+pub come_by : {S : Type 0} (start : ℕ) (ps : List (Piece S)) (v i : ℕ) (p : Piece S) → latest_time start ps ≤ v → slice_get ps i ≡ Some p → p.from ≤ v
+come_by start [] v i p le at = absurd (none-some p at)
+come_by {S} start (q ∷ ps) v zero p le at =
+    omega (arith, latest_time-least (max start q.from) ps, le, ap (λ (x : Piece S). x.from) (same_Some q p at))
+come_by start (q ∷ ps) v (suc i) p le at = come_by (max start q.from) ps v i p le at
+
+-- where a piece more was read, all but that one had
+pub come_but_last : {S : Type 0} (start : ℕ) (ps : List (Piece S)) (q : Piece S) (v : ℕ) → latest_time start ps ≤ v →
+    HaveComeButLast (ps ++ q ∷ []) v
+come_but_last start ps q v le i p at before = elim (last_or_before ps q i p at) [
+  | inl there ↦ come_by start ps v i p le there
+  | inr last ↦ absurd (omega (arith, last.0, before, length-append ps (q ∷ [])))
+]
 
 pub last_piece-more : {S : Type 0} (first : Piece S) (ps : List (Piece S)) (p : Piece S) → last_piece first (ps ++ p ∷ []) ≡ p
 last_piece-more first [] p = refl

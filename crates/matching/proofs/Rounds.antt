@@ -4,7 +4,7 @@ use Rattle.std.proofs.Common.{inr, ◌⊎◌, arith, ap, refl, sym, ◌∙◌, s
 use Rattle.std.proofs.lemmas.Option.{none-some}
 use Rattle.sched_core.specs.Ranks.{IsRanked}
 use Rattle.sched_core.specs.Rules.{Rules, IsLawful, stands}
-use Rattle.matching.specs.Answers.{ClosesTo, DiffersAlike, Explains, IfCut, IfExplained, IfUnexplained, IsLater, IsNearRun, Refutes}
+use Rattle.matching.specs.Answers.{ClosesTo, DiffersAlike, Explains, HaveComeButLast, IfCut, IfExplained, IfUnexplained, IsLater, IsNearRun, Refutes}
 use Rattle.matching.specs.Answers.{SomeIsExplained}
 use Rattle.matching.specs.Explained.{EndsSlots, IsExplained, Piece, differ_at, latest_time}
 use Rattle.matching.specs.Inner.Candidates.{EndsNear, FollowAll, GoesOn, IsEarliest, IsIn, IsShortest, NearFromSome}
@@ -23,7 +23,7 @@ use Rattle.matching.proofs.Explaining.{ShowAlike, ShowsOn, shown_alike}
 use Rattle.matching.proofs.Kept.{in_none}
 use Rattle.matching.proofs.Matched.{matched_before, matched_first, matched_next, near_first, near_next, next_rank}
 use Rattle.matching.proofs.NearLemmas.{are_so, one_near}
-use Rattle.matching.proofs.PieceLemmas.{last_piece-more, latest_time-least, latest_time-more, shown_before, shows_last}
+use Rattle.matching.proofs.PieceLemmas.{come_but_last, come_by, last_piece-more, latest_time-least, latest_time-more, shown_before, shows_last}
 
 -- the time that was told is that of the next piece
 pub wanted_there : {S : Type 0} (told next : Option ℕ) (entries : List (S × Way S)) (t : ℕ) → told ≡ next → IsWanted told entries t →
@@ -75,6 +75,7 @@ module _ {R S : Type 0} (r : Rules S) (law : IsLawful r) (rank : S → ℕ) (ran
     pub read : HasRead piece reads first (rank r.first) w new
     pub before : (u : ℕ) (s : S) → u < w → differ_at (piece first) read.pieces u s ≡ differ_at (piece first) h.pieces u s
     pub last : upcoming new ≡ None → w ≡ latest_time (rank r.first) read.pieces
+    pub but_last : HaveComeButLast read.pieces v
 
   pub reads_up : (v w next : ℕ) (old new : R) (h : HasRead piece reads first (rank r.first) v old) → v < w → upcoming old ≡ Some next →
       ReadsAt piece reads old next w new → ReadsUp v w old new h
@@ -87,6 +88,7 @@ module _ {R S : Type 0} (r : Rules S) (law : IsLawful r) (rank : S → ℕ) (ran
     };
     before = λ u s less. refl;
     last = λ none. absurd (none-some next (sym none ∙ ap upcoming same.1 ∙ up));
+    but_last = λ i p at lt. come_by (rank r.first) h.pieces v i p h.within at;
   }
   reads_up v w next old new h lt up (inr on) = record {
     read = record {
@@ -97,6 +99,7 @@ module _ {R S : Type 0} (r : Rules S) (law : IsLawful r) (rank : S → ℕ) (ran
     };
     before = λ u s less. shown_before (piece first) h.pieces (piece new) u s (omega (arith, on.0, less));
     last = λ none. omega (arith, latest_time-more (rank r.first) h.pieces (piece new), h.within, lt, on.0);
+    but_last = come_but_last (rank r.first) h.pieces (piece new) v h.within;
   }
 
   module _ (v w : ℕ) (old : R) (entries : List (S × Way S)) (ending waiting : Option (Nearest S))
@@ -213,7 +216,15 @@ module _ {R S : Type 0} (r : Rules S) (law : IsLawful r) (rank : S → ℕ) (ran
           { log = some.0.1.log; steps = some.0.1.steps; explained = matched.explained some.0 some.1 } in
           let A : Option ℕ → Type 0 = λ closed. IfSome closed (IsLater (upcoming new)) in
           let later : IsLater (upcoming new) v = λ t next_is. omega (arith, ahead t next_is, time_later next wanted least) in
-          record { pieces = up.read.pieces; read = up.read.read; closed = subst I (sym is) so; ahead = subst A (sym is) later }
+          let B : Option ℕ → Type 0 = λ closed. IfSome closed (HaveComeButLast up.read.pieces) in
+          record {
+            pieces = up.read.pieces;
+            read = up.read.read;
+            closed = subst I (sym is) so;
+            ahead = subst A (sym is) later;
+            read_to = subst B (sym is) up.but_last;
+            unread = λ none. absurd (none-some v (sym none ∙ is));
+          }
 
     -- the run of a candidate, at the end
     pub explains : (Done : Type 0) (best : Explanation S) → IsShortest entries best →
@@ -255,6 +266,7 @@ module _ {R S : Type 0} (r : Rules S) (law : IsLawful r) (rank : S → ℕ) (ran
           unexplained = subst P (sym time) (λ log k x. (let kept = way.matched.all log k x in in_none entries kept.entry none kept.at));
           read_to = omega (arith, way.read.within, time);
           ahead = λ t is. omega (arith, way.ahead t is, time);
+          ended = λ over. time ∙ way.last over;
           reached = subst Q (sym time) way.reached;
           nearest = subst N (sym time) (one_near (IsNearRun r rank shown most v) ending waiting u.nearest way.near nearest);
         }

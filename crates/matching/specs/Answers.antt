@@ -1,6 +1,6 @@
 -- *product rule*: What an answer says of the runs of a space and of what a reference showed.
-use Rattle.std.specs.Prelude.{◌≡◌, ℕ, ◌-◌, ◌<◌, ◌≤◌, ◌⊎◌, true, List, [], ◌∷◌, ◌++◌, length, Option}
-use Rattle.std.specs.Prelude.{Some, IfSome}
+use Rattle.std.specs.Prelude.{◌≡◌, ℕ, ◌-◌, ◌<◌, ◌≤◌, ◌⊎◌, suc, true, List, [], ◌∷◌, ◌++◌, length, slice_get, Option}
+use Rattle.std.specs.Prelude.{Some, None, IfSome}
 use Rattle.sched_core.specs.Rules.{Rules, stands, IsRun, NamesBelow}
 use Rattle.explore.specs.declared.ranked_findings.RankedReason.TheVariants.{Entries, Steps, Stopped}
 use Rattle.statebook.specs.declared.limits.Limits.{Limits}
@@ -66,7 +66,8 @@ abbrev pub IsNearRun : {S : Type 0} → Rules S → (S → ℕ) → (ℕ → S �
 IsNearRun r rank shown most time e = ComesNear r rank shown most time e.log e.steps × (r.same e.state (stands r e.log e.steps) ≡ true)
 
 -- No run at all is explained up to the time. All pieces up to it were read, `next` is the time of the one that isn't, and none was read
--- beyond it. It is the time at which runs open, or some run is explained up to the time before. The nearest is a run
+-- beyond it; where none is left, it is the time of the last one, or that at which runs open. It is the time at which runs open, or some run is
+-- explained up to the time before. The nearest is a run
 -- that shows what is shown before the time, with few departures in each slot.
 pub record Refutes {S : Type 0} (r : Rules S) (rank : S → ℕ) (most : ℕ) (first : Piece S) (Reads : List (Piece S) → Type 0)
     (next : Option ℕ) (u : UnexplainedAt S) : Type 0 where
@@ -75,16 +76,24 @@ pub record Refutes {S : Type 0} (r : Rules S) (rank : S → ℕ) (most : ℕ) (f
   pub unexplained : (log : List (ℕ × ℕ)) (k : ℕ) → IsExplained r rank (differ_at first pieces) most u.time log k → ⊥
   pub read_to : latest_time (rank r.first) pieces ≤ u.time
   pub ahead : IsLater next u.time
+  pub ended : next ≡ None → u.time ≡ latest_time (rank r.first) pieces
   pub reached : (u.time ≡ rank r.first) ⊎ SomeIsExplained r rank (differ_at first pieces) most (u.time - 1)
   pub nearest : IfSome u.nearest (IsNearRun r rank (differ_at first pieces) most u.time)
 
--- Up to the time that was closed some run is explained, and all pieces up to it were read; `next` is the time of the one that isn't.
+-- All of these pieces but the last, if they are any, had come by the time.
+abbrev pub HaveComeButLast : {S : Type 0} → List (Piece S) → ℕ → Type 0
+HaveComeButLast {S} pieces v = (i : ℕ) (p : Piece S) → slice_get pieces i ≡ Some p → suc i < length pieces → p.from ≤ v
+
+-- Up to the time that was closed some run is explained, and all pieces up to it were read, and at most one behind it; `next` is the time of
+-- the one that isn't. Where no time was closed none was read behind the time at which runs open.
 pub record ClosesTo {S : Type 0} (r : Rules S) (rank : S → ℕ) (most : ℕ) (first : Piece S) (Reads : List (Piece S) → Type 0)
     (next : Option ℕ) (c : CutShort) : Type 0 where
   pub pieces : List (Piece S)
   pub read : Reads pieces
   pub closed : IfSome c.closed (SomeIsExplained r rank (differ_at first pieces) most)
   pub ahead : IfSome c.closed (IsLater next)
+  pub read_to : IfSome c.closed (HaveComeButLast pieces)
+  pub unread : c.closed ≡ None → latest_time (rank r.first) pieces ≤ rank r.first
 
 -- that a limit was met is said only where it was
 abbrev pub TellsOfEntries : {S : Type 0} → Rules S → Limits → CutShort → Type 0

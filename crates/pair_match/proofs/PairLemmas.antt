@@ -1,13 +1,23 @@
 -- What two references show as one, as they are read.
-use Rattle.std.proofs.Common.{◌≡◌, ℕ, ◌<◌, ◌≤◌, ◌⊎◌, inl, inr, max, List, [], ◌∷◌, ◌++◌, Option, Some, arith, ap, refl, sym, ◌∙◌, subst}
+use Rattle.std.specs.Prelude.{slice_get}
+use Rattle.std.proofs.Common.{◌≡◌, ℕ, zero, suc, ◌<◌, ◌≤◌, ◌⊎◌, inl, inr, max, List, [], ◌∷◌, ◌++◌, Option, Some, arith, ap, refl, sym, ◌∙◌, subst}
 use Rattle.std.proofs.lemmas.Bool.{cases_lt}
+use Rattle.std.proofs.lemmas.Option.{same_Some}
 use Rattle.matching.specs.Answers.{IsLater, ReadsMore}
 use Rattle.matching.specs.Explained.{Piece, differ_at, latest_time}
 use Rattle.matching.specs.Inner.Reading.{last_piece}
-use Rattle.matching.proofs.PieceLemmas.{last_piece-more, latest_time-more, shown_before, shown_last}
+use Rattle.matching.proofs.PieceLemmas.{come_by, last_piece-more, latest_time-least, latest_time-more, shown_before, shown_last}
 use Rattle.pair_match.specs.Pairs.{GoesTo, ReadsBoth, next_in, piece_in, shown_since, together}
 use Rattle.pair_match.specs.declared.pair.PairReference.{PairReference}
 use Rattle.pair_match.proofs.TimeLemmas.{is_of_one, since_read}
+
+-- each piece of both has come by a time
+come_both : {S : Type 0} (start : ℕ) (ps qs : List (Piece S)) (v i : ℕ) (p : Piece S) → latest_time start ps ≤ v → latest_time 0 qs ≤ v →
+    slice_get (ps ++ qs) i ≡ Some p → p.from ≤ v
+come_both start [] qs v i p le other at = come_by 0 qs v i p other at
+come_both {S} start (q ∷ ps) qs v zero p le other at =
+    omega (arith, latest_time-least (max start q.from) ps, le, ap (λ (x : Piece S). x.from) (same_Some q p at))
+come_both start (q ∷ ps) qs v (suc i) p le other at = come_both (max start q.from) ps qs v i p le other at
 
 -- One of the two was read up to a time: its pieces, the last of which is shown from then on; before nothing changes.
 pub record GoesOn {R S : Type 0} (piece : R → Piece S) (upcoming : R → Option ℕ) (reads : R → List (Piece S) → R → Type 0) (start : R)
@@ -79,6 +89,8 @@ module _ {R S : Type 0} (piece : R → Piece S) (upcoming : R → Option ℕ) (r
       let k = goes_on piece upcoming reads first.second h.of_second old.second new.second v h.read_second h.last_second later_other other in
       let from : (piece_in piece upcoming new).from ≡ v = ap (λ (t : ℕ). shown_since t (next_in upcoming new)) is ∙
       since_read (upcoming new.first) (upcoming new.second) v later_one later_other in
+      let upper : latest_time 0 g.more ≤ v = omega (arith, g.upper 0, h.latest 0, h.come, later) in
+      let upper_other : latest_time 0 k.more ≤ v = omega (arith, k.upper 0, h.latest 0, h.come, later) in
       record {
         of_first = g.more;
         of_second = k.more;
@@ -89,6 +101,8 @@ module _ {R S : Type 0} (piece : R → Piece S) (upcoming : R → Option ℕ) (r
             later_still (latest_time w pieces) (latest_time w h.of_first) (latest_time w h.of_second) (latest_time w g.more)
             (latest_time w k.more) v (h.latest w) (g.upper w) (g.lower w) (k.upper w) (k.lower w)
             (elim (is_of_one (upcoming old.first) (upcoming old.second) v next) [ inl a ↦ inl (g.there a w) | inr b ↦ inr (k.there b w) ]);
+        ahead_first = λ i p at t next. omega (arith, later_one t next, come_both 0 g.more k.more v i p upper upper_other at);
+        ahead_second = λ i p at t next. omega (arith, later_other t next, come_both 0 g.more k.more v i p upper upper_other at);
         last_first = g.last;
         last_second = k.last;
         come = omega (arith, latest_time-more 0 pieces (piece_in piece upcoming new), from, h.come, later);

@@ -72,8 +72,15 @@ module _ {S : Type 0} (r : Rules S) (rank : S → ℕ) (most : ℕ) where
       few = e.few;
     }
 
-    abbrev was_read : WasRead reads first now
-    was_read = record { of_first = h.of_first; of_second = h.of_second; read_first = h.read_first; read_second = h.read_second }
+    abbrev was_read : WasRead upcoming reads first now
+    was_read = record {
+      of_first = h.of_first;
+      of_second = h.of_second;
+      read_first = h.read_first;
+      read_second = h.read_second;
+      ahead_first = h.ahead_first;
+      ahead_second = h.ahead_second;
+    }
 
     some_by_each : (upto : ℕ) → SomeIsExplained r rank (differ_at (piece_in piece upcoming first) pieces) most upto →
         SomeIsExplainedByBoth r rank most (piece first.first) (piece first.second) h.of_first h.of_second upto
@@ -93,7 +100,7 @@ module _ {S : Type 0} (r : Rules S) (rank : S → ℕ) (most : ℕ) where
       (first now : PairReference R) where
     pub explains_both : (e : Explanation S) →
         Explains r rank most (piece_in piece upcoming first) (λ pieces. ReadsBoth piece upcoming reads first pieces now)
-        (done now.first ⊎ done now.second) e → ExplainsBoth r rank most piece reads done first now e
+        (done now.first ⊎ done now.second) e → ExplainsBoth r rank most piece upcoming reads done first now e
     explains_both e x = record {
       read = was_read piece upcoming reads first now x.pieces x.read;
       done = x.done;
@@ -114,6 +121,7 @@ module _ {S : Type 0} (r : Rules S) (rank : S → ℕ) (most : ℕ) where
       apart = λ log k both. x.unexplained log k (as_one piece upcoming reads first now x.pieces x.read u.time log k both);
       read_to = omega (arith, x.read_to, x.read.latest (rank r.first));
       ahead = x.ahead;
+      ended = λ none. x.ended none ∙ x.read.latest (rank r.first);
       reached = elim x.reached [ inl is ↦ inl is | inr some ↦ inr (some_by_each piece upcoming reads first now x.pieces x.read (u.time - 1) some) ];
       nearest_first = near_each piece upcoming reads first now x.pieces x.read (differ_at (piece_in piece upcoming first) x.pieces)
           (differ_at (piece first.first) x.read.of_first) (to_first piece upcoming reads first now x.pieces x.read) u.time u.nearest x.nearest;
@@ -128,4 +136,5 @@ module _ {S : Type 0} (r : Rules S) (rank : S → ℕ) (most : ℕ) where
       read = was_read piece upcoming reads first now x.pieces x.read;
       closed = closed_by_each piece upcoming reads first now x.pieces x.read c.closed x.closed;
       ahead = x.ahead;
+      unread = λ none. omega (arith, x.unread none, x.read.latest (rank r.first));
     }

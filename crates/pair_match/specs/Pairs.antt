@@ -1,6 +1,6 @@
 -- *product rule*: Two references shown as one: at each time what both show, up to where either ends.
-use Rattle.std.specs.Prelude.{◌≡◌, ℕ, ◌+◌, ◌-◌, ◌≤◌, ◌⊎◌, min, max, List, Option, Some, None}
-use Rattle.matching.specs.Answers.{ReadsMore}
+use Rattle.std.specs.Prelude.{◌≡◌, ℕ, ◌+◌, ◌-◌, ◌≤◌, ◌⊎◌, min, max, List, ◌++◌, Option, Some, None, slice_get}
+use Rattle.matching.specs.Answers.{IsLater, ReadsMore}
 use Rattle.matching.specs.Explained.{Piece, differ_at, latest_time}
 use Rattle.matching.specs.Inner.Reading.{last_piece}
 use Rattle.pair_match.specs.declared.pair.PairReference.{PairReference}
@@ -30,8 +30,12 @@ piece_in piece upcoming me = record {
   differ = λ s. together ((piece me.first).differ s) ((piece me.second).differ s);
 }
 
--- Both were read. At each time what is shown is what both show; and the last piece is the last of either. For the proof: what both show now
--- are their last pieces, all of which have come.
+-- What comes next is later than each of the pieces.
+abbrev pub IsBehind : {S : Type 0} → List (Piece S) → Option ℕ → Type 0
+IsBehind {S} pieces next = (i : ℕ) (p : Piece S) → slice_get pieces i ≡ Some p → IsLater next p.from
+
+-- Both were read. At each time what is shown is what both show; and the last piece is the last of either. What comes next in each of them is
+-- later than all that was read of both. For the proof: what both show now are their last pieces, all of which have come.
 pub record ReadsBoth {R S : Type 0} (piece : R → Piece S) (upcoming : R → Option ℕ) (reads : R → List (Piece S) → R → Type 0)
     (first : PairReference R) (pieces : List (Piece S)) (now : PairReference R) : Type 0 where
   pub of_first : List (Piece S)
@@ -41,6 +45,8 @@ pub record ReadsBoth {R S : Type 0} (piece : R → Piece S) (upcoming : R → Op
   pub both : (v : ℕ) (s : S) → differ_at (piece_in piece upcoming first) pieces v s ≡
       together (differ_at (piece first.first) of_first v s) (differ_at (piece first.second) of_second v s)
   pub latest : (v : ℕ) → latest_time v pieces ≡ max (latest_time v of_first) (latest_time v of_second)
+  pub ahead_first : IsBehind (of_first ++ of_second) (upcoming now.first)
+  pub ahead_second : IsBehind (of_first ++ of_second) (upcoming now.second)
   pub last_first : piece now.first ≡ last_piece (piece first.first) of_first
   pub last_second : piece now.second ≡ last_piece (piece first.second) of_second
   pub come : latest_time 0 pieces ≤ (piece_in piece upcoming now).from

@@ -1,6 +1,7 @@
 -- *internal*: What two references show as one before anything is read, and of equal states.
 use Rattle.std.specs.Prelude.{◌≡◌, ℕ, List, [], Option, refl}
 use Rattle.std.proofs.Common.{arith, max}
+use Rattle.std.proofs.lemmas.Option.{none-some}
 use Rattle.matching.specs.Answers.{DiffersAlike}
 use Rattle.matching.specs.Explained.{Piece}
 use Rattle.pair_match.specs.Pairs.{ReadsBoth, piece_in, together}
@@ -18,6 +19,8 @@ nothing_read piece upcoming reads none me = record {
   read_second = none me.second;
   both = λ v s. refl;
   latest = greatest_of_one;
+  ahead_first = λ i p at. absurd (none-some p at);
+  ahead_second = λ i p at. absurd (none-some p at);
   last_first = refl;
   last_second = refl;
   come = omega arith;

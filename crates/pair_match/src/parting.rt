@@ -30,7 +30,7 @@ pub fn match_both<P: Ranked, R: Reference<P::State>, W: Watcher>(
 ) -> Result<Matching<P::State>, OrMemory<PairFault<R::Fault>>>
     requires { EndsSlots (P.rules space.now) (P.ranks space.now) }
     ensures explained { IfOk result (λ answer. IfExplained answer
-        (ExplainsBoth (P.rules space.now) (P.ranks space.now) limits.now.depart R.piece R.reads R.done pair.old pair.new)) }
+        (ExplainsBoth (P.rules space.now) (P.ranks space.now) limits.now.depart R.piece R.upcoming R.reads R.done pair.old pair.new)) }
     ensures parts { IfOk result (λ answer. IfUnexplained answer
         (PartsBoth (P.rules space.now) (P.ranks space.now) limits.now.depart R.piece R.upcoming R.reads pair.old pair.new)) }
     ensures closed { IfOk result (λ answer. IfCut answer

@@ -17,7 +17,7 @@ returns-clause-explained g c =
     (Explains r rank c.args.limits.now.depart (piece_in g.R.Reference.piece g.R.Reference.upcoming first)
     (λ pieces. ReadsBoth g.R.Reference.piece g.R.Reference.upcoming g.R.Reference.reads first pieces now)
     (g.R.Reference.done now.first ⊎ g.R.Reference.done now.second))
-    (ExplainsBoth r rank c.args.limits.now.depart g.R.Reference.piece g.R.Reference.reads g.R.Reference.done first now)
+    (ExplainsBoth r rank c.args.limits.now.depart g.R.Reference.piece g.R.Reference.upcoming g.R.Reference.reads g.R.Reference.done first now)
     (explains_both r rank c.args.limits.now.depart g.R.Reference.piece g.R.Reference.upcoming g.R.Reference.reads g.R.Reference.done first now) h)
     c.match_runs.ensures.explained
 

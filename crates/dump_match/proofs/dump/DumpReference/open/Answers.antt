@@ -9,6 +9,7 @@ use Rattle.dump_match.specs.Scopes.{is_wrapped}
 use Rattle.dump_match.specs.Known.{AreMarked, has_value_in}
 use Rattle.dump_match.specs.declared.comparison.Pair.{Pair}
 use Rattle.dump_match.proofs.NamedLemmas.{named_at}
+use Rattle.dump_match.proofs.ComparedLemmas.{all_at}
 use Rattle.dump_match.proofs.dump.DumpReference.open.Goals as goal
 
 pub returns-clause-opens : goal.returns-clause-opens
@@ -32,6 +33,11 @@ returns-clause-opens g c = record {
       c.in_ok-comparison.comparison.pairs.items (λ i. is_wrapped (c.design.ensures i).top (c.variables.ensures i))
       (ap (λ (d : Design). d.variables) c.design.ensures) c.variables.ensures
       (cc (c.in_ok-slots-2.ensures.watched, c.in_ok-slots.ensures.watched)) c.in_ok-comparison.ensures.named;
+  all = all_at (is_wrapped c.design.result.now.top c.variables.result.now)
+      (is_wrapped c.args.machine.now.design.top c.in_ok-dump.dump.variables.items) c.design.result.now.variables c.args.machine.now.design.variables
+      c.variables.result.now c.in_ok-dump.dump.variables.items
+      c.in_ok-comparison.comparison.pairs.items (λ i. is_wrapped (c.design.ensures i).top (c.variables.ensures i))
+      (ap (λ (d : Design). d.variables) c.design.ensures) c.variables.ensures c.in_ok-comparison.ensures.all;
   len = c.mark_known.ensures.same ∙ ap length c.in_ok-known.ensures ∙ length-replicate (length c.deref.result.now) false ∙ ap length c.deref.ensures.value;
   marked = subst (λ (pairs : List Pair). AreMarked (replicate (length pairs) false) c.mark_known.new.known.items (has_value_in pairs c.in_ok-slots-2.slots))
       c.deref-2.ensures.value
