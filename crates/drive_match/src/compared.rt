@@ -3,7 +3,7 @@
 use crate::asked::Asked;
 use crate::differences::{Difference, Differences};
 use crate::slots::{Extent, compare_slots};
-use basis::{NoMemory, OrMemory, Span, Timescale};
+use basis::{NoMemory, OrMemory, Span};
 use byte_sinks::Metered;
 use dump_match::DumpReference;
 use sched_core::setting::Grain;
@@ -12,7 +12,7 @@ use std::alloc::Global;
 use std::fs::File;
 use vcd_read::VcdFault;
 use vmachine::Machine;
-use vrace::{Fault, Options, machine_of_files};
+use vrace::{Fault, Options, PlacedMachine, machine_of_files};
 
 // The most variables that are told.
 const TOLD: usize = 3;
@@ -65,11 +65,12 @@ fn renaming_for(alloc: Global, asked: &Asked<'_>) -> Result<Option<Renaming>, No
     }
 }
 
-// The unit of a dump that files with the usual timescale aren't compared in: their times count in theirs.
-fn other_unit(scale: Timescale, unit: Option<Span>) -> Option<Span> {
+// The unit of a dump that files without a timescale aren't compared in: their times count in theirs.
+fn other_unit(placed: &PlacedMachine, unit: Option<Span>) -> Option<Span> {
     let unit = unit?;
-    let is_same = unit.femtoseconds() == scale.precision.femtoseconds();
-    if is_same || !scale.is_like(Timescale::usual()) {
+    let precision = placed.machine.design().scale.precision;
+    let is_same = unit.femtoseconds() == precision.femtoseconds();
+    if is_same || placed.timed {
         None
     } else {
         Some(unit)
@@ -79,7 +80,7 @@ fn other_unit(scale: Timescale, unit: Option<Span>) -> Option<Span> {
 // The dump, of which nothing is shown yet.
 fn open_dump<'m>(
     rt: &HostRuntime,
-    machine: &'m Machine,
+    placed: &'m PlacedMachine,
     dump: &str,
     renaming: Renaming,
 ) -> Result<DumpReference<'m, RenamedDump>, OrMemory<VcdFault>> {
@@ -87,24 +88,29 @@ fn open_dump<'m>(
         return Err(OrMemory::Fault(VcdFault::Read));
     };
     let reader = RenamedDump::new(rt.alloc(), file, Some(renaming));
-    DumpReference::open(rt.alloc(), machine, Metered::new(reader))
+    DumpReference::open(
+        rt.alloc(),
+        &placed.machine,
+        placed.timed,
+        Metered::new(reader),
+    )
 }
 
 // Compares the machine's default order with the dump.
 fn compare_machine(
     rt: &HostRuntime,
-    machine: &Machine,
+    placed: &PlacedMachine,
     asked: &Asked<'_>,
     renaming: Renaming,
 ) -> Result<Answer, NoMemory> {
-    let alloc = rt.alloc();
-    let mut shown = match open_dump(rt, machine, asked.dump, renaming) {
+    let (alloc, machine) = (rt.alloc(), &placed.machine);
+    let mut shown = match open_dump(rt, placed, asked.dump, renaming) {
         Ok(shown) => shown,
         Err(OrMemory::Memory(refused)) => return Err(refused),
         Err(OrMemory::Fault(_)) => return Ok(Answer::Not(NotCompared::Unread)),
     };
     let design = machine.design();
-    if let Some(unit) = other_unit(design.scale, shown.unit()) {
+    if let Some(unit) = other_unit(placed, shown.unit()) {
         return Ok(Answer::Not(NotCompared::Unit(unit)));
     }
     let mut differences = Differences::none(alloc, design.variables.len())?;
@@ -122,12 +128,12 @@ fn compare_machine(
 }
 
 // The machine of the files; none where they are refused.
-fn machine_of(alloc: Global, asked: &Asked<'_>) -> Result<Option<Machine>, NoMemory> {
+fn machine_of(alloc: Global, asked: &Asked<'_>) -> Result<Option<PlacedMachine>, NoMemory> {
     let Ok(options) = Options::new(Some(asked.top), LAST_TIME, 0, 1, 1, Grain::Process) else {
         return Ok(None);
     };
     match machine_of_files(alloc, asked.texts, &options) {
-        Ok(placed) => Ok(Some(placed.machine)),
+        Ok(placed) => Ok(Some(placed)),
         Err(Fault::Memory(refused)) => Err(refused),
         Err(_) => Ok(None),
     }
@@ -140,6 +146,6 @@ pub fn compare(rt: &HostRuntime, asked: &Asked<'_>) -> Result<Answer, NoMemory> 
     };
     match machine_of(rt.alloc(), asked)? {
         None => Ok(Answer::Not(NotCompared::Refused)),
-        Some(machine) => compare_machine(rt, &machine, asked, renaming),
+        Some(placed) => compare_machine(rt, &placed, asked, renaming),
     }
 }

@@ -13,7 +13,7 @@ use crate::comparison::{Comparison, Pair};
 use crate::differing::{Differing, differing_of, pair_differs};
 use crate::dump::DumpReference;
 use crate::known::{mark_known, none_known};
-use basis::{NoMemory, OrMemory, Span, Timescale};
+use basis::{NoMemory, OrMemory, Span};
 use byte_sinks::Metered;
 use matching::Reference;
 use sched_core::Ranked;
@@ -25,14 +25,10 @@ use vcd_slots::{Columns, DumpSlots};
 use vmachine::{Machine, MachineState, machine_law};
 
 // The unit in which a dump that declares this one counts, where it isn't the files'.
-fn told_unit(scale: Timescale, unit: Option<Span>) -> Option<Span>
-    ensures { result ≡ told_unit scale unit }
+fn told_unit(timed: bool, unit: Option<Span>) -> Option<Span>
+    ensures { result ≡ told_unit timed unit }
 {
-    if scale.is_like(Timescale::usual()) {
-        None
-    } else {
-        unit
-    }
+    if timed { unit } else { None }
 }
 
 // How many of the pairs differ: what the dump tells, and the values.
@@ -98,20 +94,21 @@ fn from_zero<R: Read + Drop>(
 
 impl<'m, R: Read + Drop> DumpReference<'m, R> {
     /// The dump of this reader, of which the declarations are read: which of its variables are those of the machine. Its times are shown in the
-    /// unit of the machine's; they count in that one, too, where its timescale is 1 ns / 1 ns, as it is of files that have none. E505 with its line where it is no dump, E903 where the reader fails, E904, E901.
+    /// unit of the machine's; they count in that one, too, where no timescale stands in its files (`timed` is false). E505 with its line where it is no dump, E903 where the reader fails, E904, E901.
     pub fn open(
         alloc: Global,
         machine: &'m Machine,
+        timed: bool,
         reader: Metered<R>,
     ) -> Result<DumpReference<'m, R>, OrMemory<VcdFault>>
         ensures machine { IfOk result (λ reference. reference.machine.now ≡ machine.now) }
-        ensures opens { IfOk result (OpensDump R.remaining reader.inner) }
+        ensures opens { IfOk result (OpensDump R.remaining timed reader.inner) }
     {
         let dump = VcdReader::open(alloc, reader)?;
         let mut columns = Columns::new(alloc);
         let comparison = Comparison::new(alloc, machine.design(), dump.variables(), &mut columns)?;
         let scale = machine.design().scale;
-        let unit = told_unit(scale, dump.unit());
+        let unit = told_unit(timed, dump.unit());
         let slots = DumpSlots::begin(alloc, dump, columns, unit, scale.precision)?;
         let slots = from_zero(alloc, slots)?;
         let mut known = none_known(alloc, &comparison.pairs)?;

@@ -130,14 +130,22 @@ fn open_file(rt: &HostRuntime, words: DumpWords<'_>) -> Result<DumpFile, Stop> {
     })
 }
 
+/// The machine of the files, and whether a timescale stands in these: a dump of others counts in a unit of its own.
+#[derive(Clone, Copy)]
+pub(crate) struct Subject<'m> {
+    pub(crate) machine: &'m Machine,
+    pub(crate) timed: bool,
+}
+
 /// The dump that is compared, of which nothing is shown yet.
 pub(crate) fn open_dump<'m>(
     rt: &HostRuntime,
-    machine: &'m Machine,
+    subject: Subject<'m>,
     words: DumpWords<'_>,
 ) -> Result<OpenDump<'m>, Stop> {
     let file = open_file(rt, words)?;
-    match DumpReference::open(rt.alloc(), machine, Metered::new(file)) {
+    let Subject { machine, timed } = subject;
+    match DumpReference::open(rt.alloc(), machine, timed, Metered::new(file)) {
         Ok(reference) => Ok(reference),
         Err(fault) => Err(refused_dump(fault)),
     }

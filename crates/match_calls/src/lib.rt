@@ -17,7 +17,7 @@ use command_line::{
     MatchWords, Request, has_dashed_match, has_dashed_top, has_many_dumps, has_many_scopes,
     match_request_of, match_words_of,
 };
-use dumps::renaming_by;
+use dumps::{Subject, renaming_by};
 use finding_text::Sources;
 use one::tell_one;
 use program_base::{DASHED, Stop, check_limits, texts, with_words};
@@ -48,9 +48,13 @@ fn match_texts(
         texts,
         places: &places,
     };
+    let subject = Subject {
+        machine: &placed.machine,
+        timed: placed.timed,
+    };
     match words.second {
-        None => tell_one(rt, &placed.machine, &sources, request, words),
-        Some(second) => tell_two(rt, &placed.machine, &sources, request, words, second),
+        None => tell_one(rt, subject, &sources, request, words),
+        Some(second) => tell_two(rt, subject, &sources, request, words, second),
     }
 }
 

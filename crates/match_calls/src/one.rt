@@ -1,5 +1,6 @@
 // One dump, compared with the runs of a machine.
 
+use crate::dumps::Subject;
 use crate::searching::{OneTried, find_one};
 use crate::told::{facts_of, found_of, scene_of};
 use command_line::{MatchWords, Request};
@@ -11,7 +12,6 @@ use race_findings::{DumpFound, dump_status};
 use search_meter::Meter;
 use shown_text::shown_text;
 use std::process::ExitCode;
-use vmachine::Machine;
 use vrace::Budget;
 
 // What the dump is: where nothing of it was compared, that isn't known.
@@ -38,13 +38,14 @@ fn write_found(rt: &HostRuntime, found: &Found<'_>, format: Option<&str>) -> Res
 /// Compares the dump with the runs of the machine, and tells what was found.
 pub(crate) fn tell_one<'a>(
     rt: &HostRuntime,
-    machine: &'a Machine,
+    subject: Subject<'a>,
     sources: &'a Sources<'a>,
     request: &Request<'_>,
     words: &'a MatchWords<'a>,
 ) -> Result<ExitCode, Stop> {
+    let machine = subject.machine;
     let mut meter = Meter::of_slots(rt, words.allowance);
-    let one = find_one(rt, machine, request, words, words.first, &mut meter)?;
+    let one = find_one(rt, subject, request, words, words.first, &mut meter)?;
     let facts = facts_of(rt.alloc(), machine, &one.tried, &one.reference)?;
     let scene = scene_of(machine, sources, request, words, meter.spent());
     let last = one.reference.time();

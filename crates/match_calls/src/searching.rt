@@ -1,6 +1,6 @@
 // The searches, level by level of departures.
 
-use crate::dumps::{OpenDump, PairStop, of_second, open_dump, refused_dump};
+use crate::dumps::{OpenDump, PairStop, Subject, of_second, open_dump, refused_dump};
 use crate::telling::Tried;
 use basis::{NoMemory, OrMemory};
 use command_line::{DumpWords, MatchWords, Request};
@@ -94,15 +94,15 @@ fn limits_of(
 // What is found of a dump with so many departures a slot.
 fn try_one<'m>(
     rt: &HostRuntime,
-    machine: &'m Machine,
+    subject: Subject<'m>,
     request: &Request<'_>,
     words: &MatchWords<'_>,
     dump: DumpWords<'_>,
     most: u64,
     meter: &mut Meter<'_>,
 ) -> Result<OneTried<'m>, Stop> {
-    let limits = limits_of(machine, request, words, most)?;
-    let mut reference = open_dump(rt, machine, dump)?;
+    let limits = limits_of(subject.machine, request, words, most)?;
+    let mut reference = open_dump(rt, subject, dump)?;
     match match_dump(rt.alloc(), &mut reference, &limits, meter) {
         Ok(answer) => Ok(OneTried {
             reference,
@@ -168,21 +168,21 @@ fn tell_one(
 /// once that fewer aren't enough, and stands if the search is cut then.
 pub(crate) fn find_one<'m>(
     rt: &HostRuntime,
-    machine: &'m Machine,
+    subject: Subject<'m>,
     request: &Request<'_>,
     words: &MatchWords<'_>,
     dump: DumpWords<'_>,
     meter: &mut Meter<'_>,
 ) -> Result<OneTried<'m>, Stop> {
     meter.set_level(0);
-    let mut one = try_one(rt, machine, request, words, dump, 0, meter)?;
+    let mut one = try_one(rt, subject, request, words, dump, 0, meter)?;
     for most in 1..words.slot_depart.saturating_add(1) {
         if !one.tried.is_unexplained() {
             return Ok(one);
         }
-        tell_one(rt, machine, &one, name_among(words, dump))?;
+        tell_one(rt, subject.machine, &one, name_among(words, dump))?;
         meter.set_level(most);
-        let next = try_one(rt, machine, request, words, dump, most, meter)?;
+        let next = try_one(rt, subject, request, words, dump, most, meter)?;
         if let Matching::Cut(cut) = next.tried.answer {
             one.tried.stand(cut);
             return Ok(one);
@@ -208,10 +208,10 @@ fn refused_pair(fault: OrMemory<PairFault<VcdFault>>) -> PairStop {
 // The second dump, of which nothing is shown yet.
 fn open_second<'m>(
     rt: &HostRuntime,
-    machine: &'m Machine,
+    subject: Subject<'m>,
     words: DumpWords<'_>,
 ) -> Result<OpenDump<'m>, PairStop> {
-    match open_dump(rt, machine, words) {
+    match open_dump(rt, subject, words) {
         Ok(dump) => Ok(dump),
         Err(stop) => Err(of_second(stop)),
     }
@@ -220,16 +220,16 @@ fn open_second<'m>(
 // What is found of two dumps as one with so many departures a slot.
 fn try_pair<'m>(
     rt: &HostRuntime,
-    machine: &'m Machine,
+    subject: Subject<'m>,
     request: &Request<'_>,
     words: &MatchWords<'_>,
     second: DumpWords<'_>,
     most: u64,
     meter: &mut Meter<'_>,
 ) -> Result<PairTried<'m>, PairStop> {
-    let limits = limits_of(machine, request, words, most)?;
-    let first_dump = open_dump(rt, machine, words.first)?;
-    let second_dump = open_second(rt, machine, second)?;
+    let limits = limits_of(subject.machine, request, words, most)?;
+    let first_dump = open_dump(rt, subject, words.first)?;
+    let second_dump = open_second(rt, subject, second)?;
     let mut pair = PairReference::new(first_dump, second_dump);
     match match_dumps(rt.alloc(), &mut pair, &limits, meter) {
         Ok(answer) => Ok(PairTried {
@@ -264,20 +264,20 @@ fn tell_pair(
 /// What is found of two dumps as one, level by level as of one.
 pub(crate) fn find_pair<'m>(
     rt: &HostRuntime,
-    machine: &'m Machine,
+    subject: Subject<'m>,
     request: &Request<'_>,
     words: &MatchWords<'_>,
     second: DumpWords<'_>,
     meter: &mut Meter<'_>,
 ) -> Result<PairTried<'m>, PairStop> {
-    let mut both = try_pair(rt, machine, request, words, second, 0, meter)?;
+    let mut both = try_pair(rt, subject, request, words, second, 0, meter)?;
     for most in 1..words.slot_depart.saturating_add(1) {
         if !both.tried.is_unexplained() {
             return Ok(both);
         }
-        tell_pair(rt, machine, &both, words.first.dump, second.dump)?;
+        tell_pair(rt, subject.machine, &both, words.first.dump, second.dump)?;
         meter.set_level(most);
-        let next = try_pair(rt, machine, request, words, second, most, meter)?;
+        let next = try_pair(rt, subject, request, words, second, most, meter)?;
         if let Matching::Cut(cut) = next.tried.answer {
             both.tried.stand(cut);
             return Ok(both);

@@ -1,6 +1,6 @@
 // Two dumps, compared with the runs of a machine and so with each other.
 
-use crate::dumps::{OpenDump, PairStop, of_second};
+use crate::dumps::{OpenDump, PairStop, Subject, of_second};
 use crate::one::dump_found;
 use crate::searching::{OneTried, PairTried, find_one, find_pair};
 use crate::telling::Tried;
@@ -46,7 +46,7 @@ fn is_left(tried: &Tried, dump: &OpenDump<'_>) -> bool {
 // What is found of the first by itself, where it is to be.
 fn find_first<'m>(
     rt: &HostRuntime,
-    machine: &'m Machine,
+    subject: Subject<'m>,
     request: &Request<'_>,
     words: &MatchWords<'_>,
     both: &PairTried<'m>,
@@ -55,13 +55,13 @@ fn find_first<'m>(
     if !is_left(&both.tried, &both.pair.first) {
         return Ok(None);
     }
-    Ok(Some(find_one(rt, machine, request, words, words.first, meter)?))
+    Ok(Some(find_one(rt, subject, request, words, words.first, meter)?))
 }
 
 // The same of the second.
 fn find_second<'m>(
     rt: &HostRuntime,
-    machine: &'m Machine,
+    subject: Subject<'m>,
     request: &Request<'_>,
     words: &MatchWords<'_>,
     second: DumpWords<'_>,
@@ -71,7 +71,7 @@ fn find_second<'m>(
     if !is_left(&both.tried, &both.pair.second) {
         return Ok(None);
     }
-    match find_one(rt, machine, request, words, second, meter) {
+    match find_one(rt, subject, request, words, second, meter) {
         Ok(found) => Ok(Some(found)),
         Err(stop) => Err(of_second(stop)),
     }
@@ -80,15 +80,15 @@ fn find_second<'m>(
 // All that is found.
 fn find_all<'m>(
     rt: &HostRuntime,
-    machine: &'m Machine,
+    subject: Subject<'m>,
     request: &Request<'_>,
     words: &MatchWords<'_>,
     second: DumpWords<'_>,
     meter: &mut Meter<'_>,
 ) -> Result<PairFound<'m>, PairStop> {
-    let both = find_pair(rt, machine, request, words, second, meter)?;
-    let of_first = find_first(rt, machine, request, words, &both, meter)?;
-    let of_other = find_second(rt, machine, request, words, second, &both, meter)?;
+    let both = find_pair(rt, subject, request, words, second, meter)?;
+    let of_first = find_first(rt, subject, request, words, &both, meter)?;
+    let of_other = find_second(rt, subject, request, words, second, &both, meter)?;
     Ok(PairFound {
         both,
         first: of_first,
@@ -291,14 +291,15 @@ fn pair_of<'a>(
 // Compares both dumps with the runs of the machine, and tells what was found.
 fn tell_found(
     rt: &HostRuntime,
-    machine: &Machine,
+    subject: Subject<'_>,
     sources: &Sources<'_>,
     request: &Request<'_>,
     words: &MatchWords<'_>,
     second: DumpWords<'_>,
 ) -> Result<ExitCode, PairStop> {
+    let machine = subject.machine;
     let mut meter = Meter::of_slots(rt, words.allowance);
-    let found = find_all(rt, machine, request, words, second, &mut meter)?;
+    let found = find_all(rt, subject, request, words, second, &mut meter)?;
     let facts = all_facts(rt.alloc(), machine, &found)?;
     let pair = &found.both.pair;
     let apart = all_apart(rt.alloc(), machine, &pair.first, &pair.second)?;
@@ -318,13 +319,13 @@ fn say_second(rt: &HostRuntime, dump: &str, line: u64, flaw: VcdFlaw) -> Result<
 /// Compares both dumps with the runs of the machine, and tells what was found: whether one run explains both, or where they part.
 pub(crate) fn tell_two(
     rt: &HostRuntime,
-    machine: &Machine,
+    subject: Subject<'_>,
     sources: &Sources<'_>,
     request: &Request<'_>,
     words: &MatchWords<'_>,
     second: DumpWords<'_>,
 ) -> Result<ExitCode, Stop> {
-    match tell_found(rt, machine, sources, request, words, second) {
+    match tell_found(rt, subject, sources, request, words, second) {
         Ok(code) => Ok(code),
         Err(stop) => {
             let (line, flaw) = stop.of_line()?;

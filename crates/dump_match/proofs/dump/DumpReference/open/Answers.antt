@@ -24,8 +24,8 @@ returns-clause-opens g c = record {
   opens = c.in_ok-slots-2.ensures.goes;
   units = c.in_ok-slots.ensures.units
       ∙ ap (λ (u : Option Span). units_of u c.behind-machine.inside.scale.precision)
-      (c.told_unit-unit.ensures ∙ ap (told_unit c.behind-machine.inside.scale) c.unit.ensures)
-      ∙ ap (λ (s : Timescale). units_of (told_unit s c.in_ok-dump.dump.unit) s.precision)
+      (c.told_unit-unit.ensures ∙ ap (told_unit c.args.timed) c.unit.ensures)
+      ∙ ap (λ (s : Timescale). units_of (told_unit c.args.timed c.in_ok-dump.dump.unit) s.precision)
       (ap (λ (d : Design). d.scale) (c.behind-machine.view_is ∙ c.design-2.ensures));
   named = named_at (is_wrapped c.design.result.now.top c.variables.result.now)
       (is_wrapped c.args.machine.now.design.top c.in_ok-dump.dump.variables.items) c.design.result.now.variables c.args.machine.now.design.variables
