@@ -1,5 +1,6 @@
 use Rattle.std.proofs.Common.{ap, refl, ◌∙◌}
-use Rattle.race_groups.specs.Inner.{Tracing, tracing_of}
+use Rattle.race_groups.specs.Inner.{tracing_of}
+use Rattle.race_groups.specs.Tracing.{Tracing}
 use Rattle.race_groups.proofs.KeptLemmas.{grows_all, takes_all}
 use Rattle.race_groups.proofs.SumLemmas.{both_ok, grows_none}
 use Rattle.race_groups.proofs.collected.RaceGroups.put_found.Goals as goal
