@@ -157,6 +157,3 @@ pub ok_so : {T E P : Type 0} (r : Result T E) → P → OnOk r P
 ok_so (Ok x) p = p
 ok_so (Err e) p = tt
 
-pub ok_both : {T E P Q R : Type 0} (r : Result T E) → (P → Q → R) → OnOk r P → OnOk r Q → OnOk r R
-ok_both (Ok x) so p q = so p q
-ok_both (Err e) so p q = tt

@@ -158,6 +158,10 @@ pub on_ok : {A E : Type 0} {P Q : Type 0} (x : Result A E) → (P → Q) → OnO
 on_ok (Ok a) f p = f p
 on_ok (Err e) f p = tt
 
+pub both_ok : {T E P Q R : Type 0} (r : Result T E) → (P → Q → R) → OnOk r P → OnOk r Q → OnOk r R
+both_ok (Ok x) so p q = so p q
+both_ok (Err e) so p q = tt
+
 pub on_both : {A E : Type 0} {P Q R : Type 0} (x : Result A E) → (P → R) → (Q → R) → OnOk x P → OnErr x Q → R
 on_both (Ok a) f g p q = f p
 on_both (Err e) f g p q = g q

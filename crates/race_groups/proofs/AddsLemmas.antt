@@ -9,7 +9,8 @@ use Rattle.racebook.proofs.ListLemmas.{contains_at}
 use Rattle.race_groups.specs.declared.group.Difference.{Difference}
 use Rattle.race_groups.specs.declared.group.Group.{Group}
 use Rattle.race_groups.specs.Found.{IsLogOf}
-use Rattle.race_groups.specs.Inner.{Adds, IsCaused, IsTraced, GroupHead, Tracing, group_head, group_heads}
+use Rattle.race_groups.specs.Inner.{Adds, IsCaused, GroupHead, group_head, group_heads}
+use Rattle.race_groups.specs.Tracing.{IsTraced, Tracing}
 use Rattle.race_groups.proofs.ListLemmas.{nothing_in, to_map}
 
 -- ---- lists of groups

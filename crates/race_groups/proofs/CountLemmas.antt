@@ -1,6 +1,6 @@
 -- What groups sum up as they grow.
 use Rattle.std.specs.Prelude.{⊤}
-use Rattle.std.proofs.Common.{◌≡◌, ◌≢◌, ℕ, zero, suc, ◌+◌, ◌<◌, ◌≤◌, ◌⊎◌, Bool, true, false, List, [], ◌∷◌, ◌++◌, length, take, slice_get}
+use Rattle.std.proofs.Common.{◌≡◌, ◌≢◌, ℕ, zero, suc, ◌+◌, ◌<◌, ◌≤◌, ◌⊎◌, Bool, true, false, List, [], ◌∷◌, ◌++◌, length, take, slice_get, Option}
 use Rattle.std.proofs.Common.{slice_set, Some, Result, Ok, Err, OnOk, OnErr, refl, sym, ap, ◌∙◌, subst, inl, inr, append-nil, arith}
 use Rattle.std.specs.List.{Contains}
 use Rattle.std.proofs.lemmas.Bool.{cases_lt}
@@ -10,12 +10,15 @@ use Rattle.std.proofs.lemmas.List.Elements.{Contains-push, Contains-push_cases, 
 use Rattle.std.proofs.lemmas.List.Elements.{Contains-append_right}
 use Rattle.basis.proofs.Lists.{last_or_before, place_within, stands_in_front, stands_last, taken_at}
 use Rattle.racebook.proofs.ListLemmas.{contains_at}
+use Rattle.cause.specs.declared.cause.Cause.{Cause}
 use Rattle.race_groups.specs.declared.group.Difference.{Difference}
 use Rattle.race_groups.specs.declared.group.Group.{Group}
 use Rattle.race_groups.specs.declared.group.Name.{Name}
-use Rattle.race_groups.specs.Found.{AllSummarize, AreNamedOnce, IsNameIn, IsNameInOne, IsNamedAt, Summarizes, name_of}
-use Rattle.race_groups.specs.Inner.{AreNamedApart, Counts, CountsStill, Follows, IsNamedIn, IsOpened, IsUntouched, NoName, GroupHead, Widens}
-use Rattle.race_groups.specs.Inner.{group_head}
+use Rattle.race_groups.specs.Blame.{HasSameCause}
+use Rattle.race_groups.specs.Found.{AllSummarize, AreNamedOnce, IsNameIn, IsLogOf, IsNameInOne, IsNamedAt, Summarizes, name_of}
+use Rattle.race_groups.specs.Inner.{AreNamedApart, Counts, CountsStill, ExplainsOne, Follows, HasCauseAt, IsNamedIn, IsOpened, IsSummedUp, IsUntouched, NoName}
+use Rattle.race_groups.specs.Inner.{GroupHead, IsWith, Widens, group_head}
+use Rattle.race_groups.specs.Tracing.{Tracing}
 use Rattle.race_groups.proofs.ListLemmas.{nothing_in}
 
 -- ---- one after another
@@ -33,24 +36,26 @@ still_on names old mid new one other before summaries =
     let b = other a.after a.summaries in
     record { after = b.after; summaries = b.summaries; still = λ place name has. b.still place name (a.still place name has) }
 
-pub counts_still : (names : ℕ) (P : Name → Type 0) (old new : List Group) → Counts names P old new → CountsStill names old new
-counts_still names P old new c before summaries =
+pub counts_still : (names : ℕ) (P : Name → Type 0) (F : Option Cause → Name → Type 0) (old new : List Group) → Counts names P F old new →
+    CountsStill names old new
+counts_still names P F old new c before summaries =
     let a = c before summaries in record { after = a.after; summaries = a.summaries; still = a.still }
 
-pub counts_none : (names : ℕ) (old new : List Group) → new ≡ old → Counts names NoName old new
-counts_none names old new is before summaries = record {
+pub counts_none : (names : ℕ) (F : Option Cause → Name → Type 0) (old new : List Group) → new ≡ old → Counts names NoName F old new
+counts_none names F old new is before summaries = record {
   after = before;
   summaries = subst (λ (l : List Group). AllSummarize names l before) (sym is) summaries;
   still = λ place name has. subst (λ (l : List Group). IsNameIn l before place name) (sym is) has;
   named = λ name none. absurd none;
   only = λ name has. inl (subst (λ (l : List Group). IsNameInOne l before name) is has);
   once = λ fresh once. subst (λ (l : List Group). AreNamedOnce l before) (sym is) once;
+  caused = λ cause name has. inl (subst (λ (l : List Group). IsSummedUp l before cause name) is has);
 }
 
 -- of two kinds that have none in common
-pub counts_on : (names : ℕ) (P Q : Name → Type 0) (old mid new : List Group) → ((n : Name) → P n → Q n → ⊥) → Counts names P old mid →
-    Counts names Q mid new → Counts names (λ n. P n ⊎ Q n) old new
-counts_on names P Q old mid new apart one other before summaries =
+pub counts_on : (names : ℕ) (P Q : Name → Type 0) (F : Option Cause → Name → Type 0) (old mid new : List Group) →
+    ((n : Name) → P n → Q n → ⊥) → Counts names P F old mid → Counts names Q F mid new → Counts names (λ n. P n ⊎ Q n) F old new
+counts_on names P Q F old mid new apart one other before summaries =
     let a = one before summaries in
     let b = other a.after a.summaries in
     record {
@@ -72,11 +77,16 @@ counts_on names P Q old mid new apart one other before summaries =
         | inl was ↦ fresh name (inr q) was
         | inr p ↦ apart name p q
       ]) (a.once (λ name p was. fresh name (inl p) was) once);
+      caused = λ cause name has. elim (b.caused cause name has) [
+        | inl there ↦ a.caused cause name there
+        | inr fits ↦ inr fits
+      ];
     }
 
-pub counts_as : (names : ℕ) (P Q : Name → Type 0) (old new : List Group) → ((n : Name) → Q n → P n) → ((n : Name) → P n → Q n) →
-    Counts names P old new → Counts names Q old new
-counts_as names P Q old new from to c before summaries =
+pub counts_as : (names : ℕ) (P Q : Name → Type 0) (F G : Option Cause → Name → Type 0) (old new : List Group) → ((n : Name) → Q n → P n) →
+    ((n : Name) → P n → Q n) → ((cause : Option Cause) (n : Name) → F cause n → G cause n) → Counts names P F old new →
+    Counts names Q G old new
+counts_as names P Q F G old new from to fits c before summaries =
     let a = c before summaries in
     record {
       after = a.after;
@@ -88,7 +98,40 @@ counts_as names P Q old new from to c before summaries =
         | inr p ↦ inr (to name p)
       ];
       once = λ fresh once. a.once (λ name p was. fresh name (to name p) was) once;
+      caused = λ cause name has. elim (a.caused cause name has) [
+        | inl was ↦ inl was
+        | inr so ↦ inr (fits cause name so)
+      ];
     }
+
+-- of the same names
+pub counts_fit : (names : ℕ) (P : Name → Type 0) (F G : Option Cause → Name → Type 0) (old new : List Group) →
+    ((cause : Option Cause) (n : Name) → F cause n → G cause n) → Counts names P F old new → Counts names P G old new
+counts_fit names P F G old new fits c = counts_as names P P F G old new (λ n p. p) (λ n p. p) fits c
+
+-- where more differences may explain, and causes are traced alike
+pub explained_by : (names : ℕ) (IsNew : Name → Type 0) (there tracing : Tracing) (P Q : Difference → Type 0) (old new : List Group) →
+    there ≡ tracing → ((d : Difference) → P d → Q d) → Counts names IsNew (ExplainsOne there P) old new →
+    Counts names IsNew (ExplainsOne tracing Q) old new
+explained_by names IsNew there tracing P Q old new is from c =
+    counts_fit names IsNew (ExplainsOne tracing P) (ExplainsOne tracing Q) old new (λ cause n e. (e.0, from e.0 e.1, e.2))
+    (subst (λ (t : Tracing). Counts names IsNew (ExplainsOne t P) old new) is c)
+
+-- a difference joins the group that blames the same statements as the log of its side
+pub followed_explains : (tracing : Tracing) (d : Difference) (groups : List Group) (log : List (ℕ × ℕ)) (place : ℕ) (name : Name) →
+    name_of d ≡ Some name → IsLogOf d log → IsWith tracing groups log place → (cause : Option Cause) (n : Name) →
+    (name ≡ n) × HasCauseAt groups place cause → ExplainsOne tracing (λ e. e ≡ d) cause n
+followed_explains tracing d groups log place name named of with cause n (is, (group, at, under)) = (
+  d,
+  refl,
+  record {
+    named = named ∙ ap Some is;
+    log = log;
+    of = of;
+    same = subst (λ (c : Option Cause). HasSameCause tracing.setting tracing.steps c log)
+        (ap (λ (g : Group). g.cause) (same_Some with.group group (sym with.at ∙ at)) ∙ under) with.same;
+  },
+)
 
 -- ---- a list in the place of another
 
@@ -276,6 +319,25 @@ module _ (names : ℕ) (groups : List Group) (place : ℕ) (old new : Group) (at
     ]
   ]
 
+  -- what a group of this cause sums up now
+  set_caused : (before : ℕ → List Name) (cause : Option Cause) (name : Name) → IsSummedUp now (after before) cause name →
+      IsSummedUp groups before cause name ⊎ (Contains more name × HasCauseAt groups place cause)
+  set_caused before cause name is = elim (at_set groups place is.place new is.group is.at) [
+    | inl (other, there) ↦ inl (record {
+      place = is.place;
+      group = is.group;
+      at = there;
+      under = is.under;
+      among = subst (λ (l : List Name). Contains l name) (put_elsewhere before place (before place ++ more) is.place other) is.among;
+    })
+    | inr (here, new_is, z, there) ↦
+        let under : old.cause ≡ cause = ap (λ (t : GroupHead). t.cause) (sym same) ∙ ap (λ (g : Group). g.cause) new_is ∙ is.under in
+        elim (Contains-append_cases (before place) more name (stands_there before is.place name here is.among)) [
+          | inl was ↦ inl (record { place = place; group = old; at = at; under = under; among = was })
+          | inr last ↦ inr (last, (old, at, under))
+        ]
+  ]
+
 -- the same of one name more
 module _ (names : ℕ) (groups : List Group) (place : ℕ) (old new : Group) (at : slice_get groups place ≡ Some old)
     (same : group_head new ≡ group_head old)
@@ -348,7 +410,7 @@ module _ (names : ℕ) (groups : List Group) (place : ℕ) (old new : Group) (at
 
 pub set_counts : (names : ℕ) (groups : List Group) (place : ℕ) (old new : Group) → slice_get groups place ≡ Some old → group_head new ≡ group_head old →
     (name : Name) → ((rest : List Name) → Summarizes names old rest → Summarizes names new (rest ++ name ∷ [])) →
-    Counts names (λ n. name ≡ n) groups (slice_set groups place new)
+    Counts names (λ n. name ≡ n) (λ cause n. (name ≡ n) × HasCauseAt groups place cause) groups (slice_set groups place new)
 set_counts names groups place old new at same name sums before summaries = record {
   after = after names groups place old new at same (name ∷ []) sums before;
   summaries = set_summaries names groups place old new at same (name ∷ []) sums before summaries;
@@ -363,6 +425,13 @@ set_counts names groups place old new at same name sums before summaries = recor
     ]
   ];
   once = λ fresh once. set_named_once names groups place old new at same name sums before (fresh name refl) once;
+  caused = λ cause n has. elim (set_caused names groups place old new at same (name ∷ []) sums before cause n has) [
+    | inl was ↦ inl was
+    | inr (last, under) ↦ elim (Contains-push_cases [] name n last) [
+      | inl none ↦ nothing_in n none
+      | inr is_name ↦ inr (is_name, under)
+    ]
+  ];
 }
 
 -- what of a group is told stays, whether or not it was followed
@@ -383,7 +452,7 @@ follow_still names name groups place old new (Err e) at ok err =
 
 pub follow_counts : {E : Type 0} (names : ℕ) (name : Name) (groups : List Group) (place : ℕ) (old new : Group) (result : Result ⊤ E) →
     slice_get groups place ≡ Some old → OnOk result (Follows names name old new) →
-    OnOk result (Counts names (λ n. name ≡ n) groups (slice_set groups place new))
+    OnOk result (Counts names (λ n. name ≡ n) (λ cause n. (name ≡ n) × HasCauseAt groups place cause) groups (slice_set groups place new))
 follow_counts names name groups place old new (Ok u) at ok =
     set_counts names groups place old new at ok.told name (λ rest s. follows_summary names name old new rest ok s)
 follow_counts names name groups place old new (Err e) at ok = tt
@@ -462,6 +531,18 @@ module _ (names : ℕ) (d : Difference) (old new : List Group) (group : Group) (
         ∙ is.named in cc)
   ]
 
+  wider_caused : (cause : Option Cause) (n : Name) → IsSummedUp new wider cause n → IsSummedUp old before cause n
+  wider_caused cause n is = elim (in_new is.place is.group is.at) [
+    | inl there ↦ record {
+      place = is.place;
+      group = is.group;
+      at = there;
+      under = is.under;
+      among = subst (λ (l : List Name). Contains l n) (elsewhere is.place is.group there) is.among;
+    }
+    | inr (here, same) ↦ nothing_in n (subst (λ (l : List Name). Contains l n) (none_there is.place here) is.among)
+  ]
+
   wider_once : AreNamedOnce old before → AreNamedOnce new wider
   wider_once once = record {
     once = λ i j k l n one other. once.once i j k l n (was_named i k n one) (was_named j l n other);
@@ -481,22 +562,23 @@ opened_by d old new group name named is first next more last = record {
   last = λ n also. last ∙ ap (λ (m : Name). m.time) (same_Some name n (sym named ∙ also));
 }
 
-pub open_counts : (names : ℕ) (d : Difference) (old new : List Group) (group : Group) → IsOpened d group old new →
-    Counts names (λ n. name_of d ≡ Some n) old new
-open_counts names d old new group opened before summaries = record {
+pub open_counts : (names : ℕ) (d : Difference) (F : Option Cause → Name → Type 0) (old new : List Group) (group : Group) →
+    IsOpened d group old new → Counts names (λ n. name_of d ≡ Some n) F old new
+open_counts names d F old new group opened before summaries = record {
   after = wider names d old new group opened before;
   summaries = wider_summaries names d old new group opened before summaries;
   still = wider_still names d old new group opened before;
   named = wider_named names d old new group opened before;
   only = wider_only names d old new group opened before;
   once = λ fresh once. wider_once names d old new group opened before once;
+  caused = λ cause n has. inl (wider_caused names d old new group opened before cause n has);
 }
 
 -- another group that begins with a difference that is there
-pub widens_counts : (names : ℕ) (d : Difference) (old mid new : List Group) → Counts names (λ n. name_of d ≡ Some n) old mid →
-    Widens d mid new → Counts names (λ n. name_of d ≡ Some n) old new
-widens_counts names d old mid new c (inl same) = subst (Counts names (λ n. name_of d ≡ Some n) old) (sym same) c
-widens_counts names d old mid new c (inr (group, opened)) = λ before summaries.
+pub widens_counts : (names : ℕ) (d : Difference) (F : Option Cause → Name → Type 0) (old mid new : List Group) →
+    Counts names (λ n. name_of d ≡ Some n) F old mid → Widens d mid new → Counts names (λ n. name_of d ≡ Some n) F old new
+widens_counts names d F old mid new c (inl same) = subst (Counts names (λ n. name_of d ≡ Some n) F old) (sym same) c
+widens_counts names d F old mid new c (inr (group, opened)) = λ before summaries.
     (let a = c before summaries in
     record {
       after = wider names d mid new group opened a.after;
@@ -508,6 +590,7 @@ widens_counts names d old mid new c (inr (group, opened)) = λ before summaries.
         | inr is ↦ inr is
       ];
       once = λ fresh once. wider_once names d mid new group opened a.after (a.once fresh once);
+      caused = λ cause n has. a.caused cause n (wider_caused names d mid new group opened a.after cause n has);
     })
 
 -- where groups that were added are taken away again
@@ -524,21 +607,21 @@ take_still names old mid c before summaries =
 -- ---- one side after another, one difference after another
 
 -- where the difference was counted by then, another side may open a group; where it wasn't, no group has changed
-pub side_more : (names : ℕ) (d : Difference) (old mid new : List Group) (counted : Bool) →
-    (counted ≡ true → Counts names (λ n. name_of d ≡ Some n) old mid) → (counted ≡ false → mid ≡ old) →
-    (counted ≡ true → Widens d mid new) → (counted ≡ false → Counts names (λ n. name_of d ≡ Some n) mid new) →
-    Counts names (λ n. name_of d ≡ Some n) old new
-side_more names d old mid new true so_far same wider more = widens_counts names d old mid new (so_far refl) (wider refl)
-side_more names d old mid new false so_far same wider more =
-    subst (λ (l : List Group). Counts names (λ n. name_of d ≡ Some n) l new) (same refl) (more refl)
+pub side_more : (names : ℕ) (d : Difference) (F : Option Cause → Name → Type 0) (old mid new : List Group) (counted : Bool) →
+    (counted ≡ true → Counts names (λ n. name_of d ≡ Some n) F old mid) → (counted ≡ false → mid ≡ old) →
+    (counted ≡ true → Widens d mid new) → (counted ≡ false → Counts names (λ n. name_of d ≡ Some n) F mid new) →
+    Counts names (λ n. name_of d ≡ Some n) F old new
+side_more names d F old mid new true so_far same wider more = widens_counts names d F old mid new (so_far refl) (wider refl)
+side_more names d F old mid new false so_far same wider more =
+    subst (λ (l : List Group). Counts names (λ n. name_of d ≡ Some n) F l new) (same refl) (more refl)
 
-pub race_more : {R : Type 0} (names : ℕ) (f : R → Difference) (races : List R) (i : ℕ) (race : R) (old mid new : List Group) →
-    slice_get races i ≡ Some race → AreNamedApart f races → Counts names (IsNamedIn f races i) old mid →
-    Counts names (λ n. name_of (f race) ≡ Some n) mid new → Counts names (IsNamedIn f races (i + 1)) old new
-race_more names f races i race old mid new at apart one other =
+pub race_more : {R : Type 0} (names : ℕ) (f : R → Difference) (F : Option Cause → Name → Type 0) (races : List R) (i : ℕ) (race : R)
+    (old mid new : List Group) → slice_get races i ≡ Some race → AreNamedApart f races → Counts names (IsNamedIn f races i) F old mid →
+    Counts names (λ n. name_of (f race) ≡ Some n) F mid new → Counts names (IsNamedIn f races (i + 1)) F old new
+race_more names f F races i race old mid new at apart one other =
     let P : Name → Type 0 = IsNamedIn f races i in
     let Q : Name → Type 0 = λ n. name_of (f race) ≡ Some n in
-    counts_as names (λ n. P n ⊎ Q n) (IsNamedIn f races (i + 1)) old new (λ n is. elim (cases_lt is.place i) [
+    counts_as names (λ n. P n ⊎ Q n) (IsNamedIn f races (i + 1)) F F old new (λ n is. elim (cases_lt is.place i) [
       | inl before ↦ inl (record { place = is.place; race = is.race; within = before; at = is.at; is = is.is })
       | inr behind ↦
           let lt = is.within in
@@ -553,16 +636,19 @@ race_more names f races i race old mid new at apart one other =
         is = before.is;
       }
       | inr here ↦ record { place = i; race = race; within = omega arith; at = at; is = here }
-    ]) (counts_on names P Q old mid new (λ n p q. apart p.place i p.race race n p.within p.at at p.is q) one other)
+    ]) (λ cause n so. so) (counts_on names P Q F old mid new (λ n p q. apart p.place i p.race race n p.within p.at at p.is q) one other)
 
-pub no_race_yet : {R : Type 0} (names : ℕ) (f : R → Difference) (races : List R) (i : ℕ) (groups : List Group) → i ≡ 0 →
-    Counts names (IsNamedIn f races i) groups groups
-no_race_yet names f races i groups none = counts_as names NoName (IsNamedIn f races i) groups groups
-    (λ n is. absurd (let lt = is.within in omega (arith, lt, none))) (λ n is. absurd is) (counts_none names groups groups refl)
+pub no_race_yet : {R : Type 0} (names : ℕ) (f : R → Difference) (F : Option Cause → Name → Type 0) (races : List R) (i : ℕ)
+    (groups : List Group) → i ≡ 0 → Counts names (IsNamedIn f races i) F groups groups
+no_race_yet names f F races i groups none = counts_as names NoName (IsNamedIn f races i) F F groups groups
+    (λ n is. absurd (let lt = is.within in omega (arith, lt, none))) (λ n is. absurd is) (λ cause n so. so)
+    (counts_none names F groups groups refl)
 
-pub all_races : {R : Type 0} (names : ℕ) (f : R → Difference) (races : List R) (i : ℕ) (old new : List Group) → length races ≤ i →
-    Counts names (IsNamedIn f races i) old new → Counts names (IsNamedIn f races (length races)) old new
-all_races names f races i old new whole c =
-    counts_as names (IsNamedIn f races i) (IsNamedIn f races (length races)) old new
+pub all_races : {R : Type 0} (names : ℕ) (f : R → Difference) (F : Option Cause → Name → Type 0) (races : List R) (i : ℕ)
+    (old new : List Group) → length races ≤ i → Counts names (IsNamedIn f races i) F old new →
+    Counts names (IsNamedIn f races (length races)) F old new
+all_races names f F races i old new whole c =
+    counts_as names (IsNamedIn f races i) (IsNamedIn f races (length races)) F F old new
     (λ n is. record { place = is.place; race = is.race; within = (let lt = is.within in omega (arith, lt, whole)); at = is.at; is = is.is })
-    (λ n is. record { place = is.place; race = is.race; within = place_within races is.place is.race is.at; at = is.at; is = is.is }) c
+    (λ n is. record { place = is.place; race = is.race; within = place_within races is.place is.race is.at; at = is.at; is = is.is })
+    (λ cause n so. so) c

@@ -48,8 +48,9 @@ use Rattle.race_groups.specs.Found.{HasLogOfFirst, IsDifference, IsNameInOne, Is
 use Rattle.race_groups.specs.Found.{NoneEnds, NoneIsMadeUp, TellsNoEnds, TwoCutsDiffer, TwoEndsDiffer, TwoRunsDifferIn, Verdict, cut_values_by}
 use Rattle.race_groups.specs.Found.{name_of, verdict_by}
 use Rattle.race_groups.specs.Inner.{AreCutsOf, AreCutsTold, AreGroupsOf, AreTold, CollectsGroups, IsEndOfSome, IsGroupOfEnds, IsLastSeen}
-use Rattle.race_groups.specs.Inner.{IsShownBy, KeepsGroups, TellsEnds, GroupHead, Tracing, compared_end, cut_values_in, group_head}
+use Rattle.race_groups.specs.Inner.{IsShownBy, KeepsGroups, TellsEnds, GroupHead, compared_end, cut_values_in, group_head}
 use Rattle.race_groups.specs.Inner.{group_heads, is_in_cut, traced_by, verdict_in}
+use Rattle.race_groups.specs.Tracing.{Tracing}
 use Rattle.race_groups.specs.declared.standing.Standing.{Standing}
 use Rattle.race_groups.specs.Shown.{IsLineRaceAt, IsRaceAt, SomeSlotEnds, TwoRunsDifferAt, TwoRunsPrintAt}
 use Rattle.race_groups.specs.Standing.{AreStatesShown}
@@ -346,7 +347,7 @@ module _ (setting : Setting) (alike : Alike setting) (all : AllStand setting) (t
 
   -- what is summed up is no more than that
   none_made_up : (Within : ℕ → Type 0) → ((time : ℕ) → IsClosedFrom from seen time → Within time) → refused ≡ None →
-      NoneIsMadeUp setting limits.depart groups hands.collected.all.rests Within
+      NoneIsMadeUp setting limits groups hands.collected.all.rests Within
   none_made_up Within whole sound = record {
     differ = λ i k name is.
         (let has = contains_at (hands.collected.all.rests i) k name is.named in
@@ -355,6 +356,18 @@ module _ (setting : Setting) (alike : Alike setting) (all : AllStand setting) (t
           name_differs by.difference name (shown_is by.place by.closing by.at by.difference by.shown) by.is,
         ));
     named_once = hands.collected.all.once sound in_turn;
+    caused = λ i k name is.
+        (let among = contains_at (hands.collected.all.rests i) k name is.named in
+        let (d, by, so) = hands.collected.all.caused sound is.group.cause name
+        (record { place = i; group = is.group; at = is.at; under = refl; among = among }) in
+        record {
+          difference = d;
+          named = so.named;
+          is = shown_is by.place by.closing by.at d by.shown;
+          log = so.log;
+          of = so.of;
+          same = so.same;
+        });
   }
 
   -- the end of a closing is one of a run
@@ -571,7 +584,7 @@ module _ (setting : Setting) (alike : Alike setting) (all : AllStand setting) (t
           (shows.each_line l.race (contains_at shows.line_races l.place l.race l.at))
 
       pub all_counted : ((time : ℕ) → IsClosedFrom from seen time → Within time) →
-          AllAreCounted setting limits.depart scope.names groups refused Within
+          AllAreCounted setting limits scope.names groups refused Within
       all_counted whole = record {
         rests = hands.collected.all.rests;
         summaries = hands.collected.all.summaries;
@@ -709,12 +722,12 @@ module _ (setting : Setting) (alike : Alike setting) (all : AllStand setting) (t
       (subst (λ (o : Option ℕ). IfSome o (HandsOnAllTo (machine_rules setting) limits (rank_of setting) hands.closings)) is covered_seen)
       log steps short run mark time below le
 
-  pub all_to : AllAreCounted setting limits.depart scope.names groups refused (IsClosedFrom from seen)
+  pub all_to : AllAreCounted setting limits scope.names groups refused (IsClosedFrom from seen)
   all_to = all_counted (IsClosedFrom from seen)
       (λ log steps short run mark time within le. handed_closed log steps short run mark time within.1 le) (λ time within. within.0)
       (λ time within. within)
 
-  pub all_throughout : findings.status ≡ Exhausted → AllAreCounted setting limits.depart scope.names groups refused (λ time. from ≤ time)
+  pub all_throughout : findings.status ≡ Exhausted → AllAreCounted setting limits scope.names groups refused (λ time. from ≤ time)
   all_throughout e = all_counted (λ time. from ≤ time)
       (λ log steps short run mark time within le. hands.exhausted e log steps short (here log steps run) mark) (λ time within. within)
       (λ time within. within.0)
@@ -800,8 +813,8 @@ pub record IsTold (setting : Setting) (limits : Limits) (scope : Scope) (groups 
   pub no_cause : EachGroup (LacksOnlyNoCause setting limits) groups
   pub first : EachGroup (HasFirstDifference setting limits) groups
   pub log : EachGroup HasLogOfFirst groups
-  pub all : AllAreCounted setting limits.depart scope.names groups refused (IsClosedFrom scope.from seen)
-  pub all_exhausted : findings.status ≡ Exhausted → AllAreCounted setting limits.depart scope.names groups refused
+  pub all : AllAreCounted setting limits scope.names groups refused (IsClosedFrom scope.from seen)
+  pub all_exhausted : findings.status ≡ Exhausted → AllAreCounted setting limits scope.names groups refused
       (λ time. scope.from ≤ time)
   pub none : groups ≡ [] → IfSome seen (λ top. NoneDiffer setting limits.depart (λ time. (scope.from ≤ time) × (time ≤ top)))
   pub none_exhausted : groups ≡ [] → findings.status ≡ Exhausted → NoneDiffer setting limits.depart (λ time. scope.from ≤ time)

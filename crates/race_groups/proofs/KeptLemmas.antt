@@ -20,6 +20,7 @@ use Rattle.racebook.specs.declared.slot_state.SlotState.{SlotState}
 use Rattle.racebook.specs.declared.slots.FoundInSlot.{FoundInSlot}
 use Rattle.racebook.proofs.ClosedLemmas.{slot_time}
 use Rattle.racebook.proofs.ListLemmas.{contains_at}
+use Rattle.cause.specs.declared.cause.Cause.{Cause}
 use Rattle.race_groups.specs.declared.collected.RaceGroups.{RaceGroups}
 use Rattle.race_groups.specs.declared.group.Difference.{Difference}
 use Rattle.race_groups.specs.declared.group.Difference.TheVariants.{Values, Lines, Ends}
@@ -33,11 +34,12 @@ use Rattle.race_groups.specs.Inner.{Adds, AllAlike, AllWhollyAlike, AreApartInSl
 use Rattle.race_groups.specs.Inner.{AreTold, AreUncut, CollectsGroups, Counts, IsOpened, KeepsCut, SumsUpCuts}
 use Rattle.race_groups.specs.Inner.{CountsStill, FirstTwoUnlike, GrowsBehind, GrowsTo, HaveAllOf, IsCaused, IsEndOfSome, IsGroupOfEnds}
 use Rattle.race_groups.specs.Inner.{IsLastSeen, IsNamedByOne, IsNamedIn, IsNamedInSlot, IsOfSome, IsShownBy, KeepsGroups, OfEachFrom, ShowNamedFrom}
-use Rattle.race_groups.specs.Inner.{OfEnds, ShowsNamed, StaysSo, SumsUp, TakesAll, TakesSlot, TellsEnds, GroupHead, Tracing, differences_in}
-use Rattle.race_groups.specs.Inner.{setting_of, group_head, group_heads, traced_by}
+use Rattle.race_groups.specs.Inner.{OfEnds, ShowsNamed, StaysSo, SumsUp, TakesAll, TakesSlot, TellsEnds, GroupHead, differences_in}
+use Rattle.race_groups.specs.Inner.{ExplainsOne, NoneFits, setting_of, group_head, group_heads, traced_by}
+use Rattle.race_groups.specs.Tracing.{Tracing}
 use Rattle.race_groups.specs.Standing.{AreStanding, AreStatesShown, IsFoundAt, standing_past}
 use Rattle.race_groups.proofs.AddsLemmas.{adds_none, adds_on, adds_weaker}
-use Rattle.race_groups.proofs.CountLemmas.{counts_on, open_counts, still_on, take_still}
+use Rattle.race_groups.proofs.CountLemmas.{counts_on, explained_by, open_counts, still_on, take_still}
 use Rattle.race_groups.proofs.SumLemmas.{first_before, grows_on}
 use Rattle.race_groups.proofs.StandingLemmas.{standing_more, standing_taken}
 use Rattle.race_groups.proofs.ListLemmas.{from_map, front_of_one, none_in_front, nothing_in}
@@ -318,7 +320,8 @@ module _ (tracing : Tracing) (scope : Scope) (closings : List (Closing MachineSt
     (kept : AreGroupsOf tracing scope groups heads ends cut seen refused closings)
     (adds : Adds tracing (Contains (differences_in given.found)) heads new_heads) (early_same : c.rank < scope.from → new_groups ≡ groups)
     (early_heads : c.rank < scope.from → new_heads ≡ heads)
-    (counts : scope.from ≤ c.rank → AreApartInSlot given.found → Counts scope.names (IsNamedInSlot given.found) groups new_groups)
+    (counts : scope.from ≤ c.rank → AreApartInSlot given.found → Counts scope.names (IsNamedInSlot given.found)
+    (ExplainsOne tracing (Contains (differences_in given.found))) groups new_groups)
     (before : c.rank < scope.from → new_ends ≡ ends) (sums : scope.from ≤ c.rank →
     SumsUp tracing.setting (pairs_of given.found.ends.items) ends new_ends)
     (uncut : new_cut ≡ false → (cut ≡ false) × AreUncut tracing.setting (pairs_of given.found.ends.items))
@@ -347,38 +350,48 @@ module _ (tracing : Tracing) (scope : Scope) (closings : List (Closing MachineSt
     | inr new ↦ adds.causes t new
   ]
 
+  -- a difference of this slot
+  of_this : scope.from ≤ c.rank → (d : Difference) → Contains (differences_in given.found) d → IsOfSome tracing.setting scope.from all d
+  of_this late d has = record {
+    place = length closings;
+    closing = c;
+    at = stands_last closings c;
+    late = late;
+    shown = shown_in tracing.setting all (length closings) c standing given stand_here is d has;
+  }
+
   more_firsts : (t : GroupHead) → Contains new_heads t → IsOfSome tracing.setting scope.from all t.first
   more_firsts t has = elim (cases_lt c.rank scope.from) [
     | inl early ↦ some_more tracing.setting scope.from closings c t.first
         (kept.firsts t (subst (λ (l : List GroupHead). Contains l t) (early_heads early) has))
     | inr late ↦ elim (Contains-append_cases heads adds.more t (subst (λ (l : List GroupHead). Contains l t) adds.is has)) [
       | inl old ↦ some_more tracing.setting scope.from closings c t.first (kept.firsts t old)
-      | inr new ↦ record {
-        place = length closings;
-        closing = c;
-        at = stands_last closings c;
-        late = late;
-        shown = shown_in tracing.setting all (length closings) c standing given stand_here is t.first (adds.firsts t new);
-      }
+      | inr new ↦ of_this late t.first (adds.firsts t new)
     ]
   ]
 
   was_sound : new_refused ≡ None → refused ≡ None
   was_sound sound = sym same_refused ∙ sound
 
+  -- what explains a difference still does, whatever comes behind
+  explained_more : (cause : Option Cause) (name : Name) → ExplainsOne tracing (IsOfSome tracing.setting scope.from closings) cause name →
+      ExplainsOne tracing (IsOfSome tracing.setting scope.from all) cause name
+  explained_more cause name (d, of, so) = (d, some_more tracing.setting scope.from closings c d of, so)
+
   -- an early slot changes no group
-  all_early : c.rank < scope.from → HaveAllOf tracing.setting scope new_groups new_refused all
-  all_early early = subst (λ (l : List Group). HaveAllOf tracing.setting scope l new_refused all) (sym (early_same early)) (record {
+  all_early : c.rank < scope.from → HaveAllOf tracing scope new_groups new_refused all
+  all_early early = subst (λ (l : List Group). HaveAllOf tracing scope l new_refused all) (sym (early_same early)) (record {
     rests = kept.all.rests;
     summaries = kept.all.summaries;
     shown = named_more tracing.setting scope.from (IsNameInOne groups kept.all.rests) (IsNameInOne groups kept.all.rests) closings c
         (λ n has. has) kept.all.shown (λ late. absurd (omega (arith, early, late)));
     only = λ sound name has. by_more tracing.setting scope.from closings c name (kept.all.only (was_sound sound) name has);
     once = λ sound turn. kept.all.once (was_sound sound) (turn_before tracing.setting closings c turn);
+    caused = λ sound cause name has. explained_more cause name (kept.all.caused (was_sound sound) cause name has);
   })
 
   -- each difference of a later one is in a group then
-  all_late : scope.from ≤ c.rank → HaveAllOf tracing.setting scope new_groups new_refused all
+  all_late : scope.from ≤ c.rank → HaveAllOf tracing scope new_groups new_refused all
   all_late late =
       let m = counts late (apart_in_slot tracing.setting c.rank c.marks standing given is) kept.all.rests kept.all.summaries in
       record {
@@ -404,9 +417,13 @@ module _ (tracing : Tracing) (scope : Scope) (closings : List (Closing MachineSt
             (let by = named_by_slot tracing.setting all (length closings) c standing given stand_here is name new in
             not_both tracing.setting scope.from closings c name by.0 turn (kept.all.only (was_sound sound) name was) by.1 by.2))
             (kept.all.once (was_sound sound) (turn_before tracing.setting closings c turn));
+        caused = λ sound cause name has. elim (m.caused cause name has) [
+          | inl was ↦ explained_more cause name (kept.all.caused (was_sound sound) cause name was)
+          | inr (d, among, so) ↦ (d, of_this late d among, so)
+        ];
       }
 
-  more_all : HaveAllOf tracing.setting scope new_groups new_refused all
+  more_all : HaveAllOf tracing scope new_groups new_refused all
   more_all = elim (cases_lt c.rank scope.from) [
     | inl early ↦ all_early early
     | inr late ↦ all_late late
@@ -593,6 +610,7 @@ kept_none tracing scope groups ends no_group no_end = record {
       once = λ i j k l name one other. absurd (let e = ap (λ (l : List Group). slice_get l i) no_group in let f = one.at in cc);
       not_first = λ i group name at. absurd (let e = ap (λ (l : List Group). slice_get l i) no_group in cc);
     };
+    caused = λ sound cause name has. absurd (let e = ap (λ (l : List Group). slice_get l has.place) no_group in let f = has.at in cc);
   };
   ends = λ end has. nothing_in end (subst (λ (l : List Pair). Contains l end) no_end has);
   no_end = λ e i c at. absurd (cc);
@@ -603,19 +621,20 @@ kept_none tracing scope groups ends no_group no_end = record {
 }
 
 -- where groups sum up what they did before, of the same closings, and memory was refused
-same_all : (setting : Setting) (scope : Scope) (groups new_groups : List Group) (refused new_refused : Option NoMemory)
+same_all : (tracing : Tracing) (scope : Scope) (groups new_groups : List Group) (refused new_refused : Option NoMemory)
     (closings : List (Closing MachineState)) →
-    HaveAllOf setting scope groups refused closings → CountsStill scope.names groups new_groups → new_refused ≢ None →
-    HaveAllOf setting scope new_groups new_refused closings
-same_all setting scope groups new_groups refused new_refused closings all still gone =
+    HaveAllOf tracing scope groups refused closings → CountsStill scope.names groups new_groups → new_refused ≢ None →
+    HaveAllOf tracing scope new_groups new_refused closings
+same_all tracing scope groups new_groups refused new_refused closings all still gone =
     let m = still all.rests all.summaries in
     record {
       rests = m.after;
       summaries = m.summaries;
-      shown = λ i d at late. still_named setting (IsNameInOne groups all.rests) (IsNameInOne new_groups m.after) closings i d
+      shown = λ i d at late. still_named tracing.setting (IsNameInOne groups all.rests) (IsNameInOne new_groups m.after) closings i d
           (λ n has. (has.0, m.still has.0 n has.1)) (all.shown i d at late);
       only = λ sound. absurd (gone sound);
       once = λ sound. absurd (gone sound);
+      caused = λ sound. absurd (gone sound);
     }
 
 -- groups, ends and cuts that are the same, of the same closings
@@ -632,7 +651,7 @@ same_kept tracing scope groups new_groups heads new_heads ends new_ends cut new_
     let now : K heads ends seen = record {
       causes = kept.causes;
       firsts = kept.firsts;
-      all = same_all tracing.setting scope groups new_groups refused new_refused closings kept.all still gone;
+      all = same_all tracing scope groups new_groups refused new_refused closings kept.all still gone;
       ends = kept.ends;
       no_end = kept.no_end;
       alike = kept.alike;
@@ -747,11 +766,11 @@ told_each tracing kept groups tells group has = elim tells.whole [
 ]
 
 -- a group of ends counts no other difference
-told_more : (setting : Setting) (scope : Scope) (groups new_groups : List Group) (refused : Option NoMemory)
-    (closings : List (Closing MachineState)) (ends : List (FoundMark MachineState)) (tracing : Tracing) (group : Group) →
-    HaveAllOf setting scope groups refused closings → new_groups ≡ groups ++ group ∷ [] → IsGroupOfEnds tracing ends group →
-    HaveAllOf setting scope new_groups refused closings
-told_more setting scope groups new_groups refused closings ends tracing group all is of =
+told_more : (tracing : Tracing) (scope : Scope) (groups new_groups : List Group) (refused : Option NoMemory)
+    (closings : List (Closing MachineState)) (ends : List (FoundMark MachineState)) (group : Group) →
+    HaveAllOf tracing scope groups refused closings → new_groups ≡ groups ++ group ∷ [] → IsGroupOfEnds tracing ends group →
+    HaveAllOf tracing scope new_groups refused closings
+told_more tracing scope groups new_groups refused closings ends group all is of =
     let opened : IsOpened group.first group groups new_groups = record {
       is = is;
       first = refl;
@@ -759,26 +778,29 @@ told_more setting scope groups new_groups refused closings ends tracing group al
       more = of.more;
       last = λ name named. absurd (no_name ends group.first of.tells name named);
     } in
-    let m = open_counts scope.names group.first groups new_groups group opened all.rests all.summaries in
+    let m = open_counts scope.names group.first NoneFits groups new_groups group opened all.rests all.summaries in
     record {
       rests = m.after;
       summaries = m.summaries;
-      shown = λ i d at late. still_named setting (IsNameInOne groups all.rests) (IsNameInOne new_groups m.after) closings i d
+      shown = λ i d at late. still_named tracing.setting (IsNameInOne groups all.rests) (IsNameInOne new_groups m.after) closings i d
           (λ n has. (has.0, m.still has.0 n has.1)) (all.shown i d at late);
       only = λ sound name has. elim (m.only name has) [
         | inl was ↦ all.only sound name was
         | inr new ↦ absurd (no_name ends group.first of.tells name new)
       ];
       once = λ sound turn. m.once (λ name new was. no_name ends group.first of.tells name new) (all.once sound turn);
+      caused = λ sound cause name has. elim (m.caused cause name has) [
+        | inl was ↦ all.caused sound cause name was
+        | inr none ↦ absurd none
+      ];
     }
 
 pub told_all : (tracing : Tracing) (scope : Scope) (kept : RaceGroups) (groups : List Group) (closings : List (Closing MachineState)) →
-    AreTold tracing kept groups → HaveAllOf tracing.setting scope kept.groups.items kept.refused closings →
-    HaveAllOf tracing.setting scope groups kept.refused closings
+    AreTold tracing kept groups → HaveAllOf tracing scope kept.groups.items kept.refused closings →
+    HaveAllOf tracing scope groups kept.refused closings
 told_all tracing scope kept groups closings tells have = elim tells.whole [
-  | inl same ↦ subst (λ (l : List Group). HaveAllOf tracing.setting scope l kept.refused closings) (sym same) have
-  | inr more ↦ told_more tracing.setting scope kept.groups.items groups kept.refused closings kept.ends.items tracing more.0 have more.1
-      more.3
+  | inl same ↦ subst (λ (l : List Group). HaveAllOf tracing scope l kept.refused closings) (sym same) have
+  | inr more ↦ told_more tracing scope kept.groups.items groups kept.refused closings kept.ends.items more.0 have more.1 more.3
 ]
 
 -- ---- one slot is taken
@@ -788,9 +810,11 @@ pub takes_all : (found : FoundInSlot) (races : List Race) (line_races : List Lin
     (here there : Tracing) (last : Setting) → races ≡ found.races.items → line_races ≡ found.line_races.items → here ≡ traced_by old →
     there ≡ traced_by old → last ≡ setting_of old → traced_by new ≡ traced_by old → new.scope ≡ old.scope →
     new.ended ≡ old.ended → new.cut_runs ≡ old.cut_runs → Adds here (Contains (map Values races)) (group_heads old.groups.items) (group_heads mid) →
-    (AreNamedApart Values races → Counts old.scope.names (IsNamedIn Values races (length races)) old.groups.items mid) →
+    (AreNamedApart Values races → Counts old.scope.names (IsNamedIn Values races (length races))
+    (ExplainsOne here (Contains (map Values races))) old.groups.items mid) →
     Adds there (Contains (map Lines line_races)) (group_heads mid) (group_heads new.groups.items) →
-    (AreNamedApart Lines line_races → Counts old.scope.names (IsNamedIn Lines line_races (length line_races)) mid new.groups.items) →
+    (AreNamedApart Lines line_races → Counts old.scope.names (IsNamedIn Lines line_races (length line_races))
+    (ExplainsOne there (Contains (map Lines line_races))) mid new.groups.items) →
     SumsUp last (pairs_of found.ends.items) (pairs_of old.ends.items) (pairs_of new.ends.items) →
     SumsUpCuts last (pairs_of found.ends.items) (pairs_of old.ends.items) (pairs_of new.ends.items) (pairs_of old.cut_ends.items)
     (pairs_of new.cut_ends.items) → TakesAll found old new
@@ -806,6 +830,15 @@ takes_all found races line_races old new mid here there last races_are lines_are
     let second = adds_weaker t (Contains lines) (Contains (values ++ lines)) (group_heads mid) (group_heads new.groups.items)
     (λ d has. Contains-append_right values lines d has)
     (subst (λ (x : Tracing). Adds x (Contains lines) (group_heads mid) (group_heads new.groups.items)) there_is other) in
+    let Fits : Option Cause → Name → Type 0 = ExplainsOne t (Contains (differences_in found)) in
+    let fit_one : AreNamedApart Values races → Counts old.scope.names (IsNamedIn Values races (length races)) Fits old.groups.items mid =
+    λ apart. explained_by old.scope.names (IsNamedIn Values races (length races)) here t (Contains values) (Contains (differences_in found))
+    old.groups.items mid here_is (λ d has. subst (λ (l : List Difference). Contains l d) all_are (Contains-append_left values lines d has))
+    (count_one apart) in
+    let fit_other : AreNamedApart Lines line_races → Counts old.scope.names (IsNamedIn Lines line_races (length line_races)) Fits mid new.groups.items =
+    λ apart. explained_by old.scope.names (IsNamedIn Lines line_races (length line_races)) there t (Contains lines)
+    (Contains (differences_in found)) mid new.groups.items there_is
+    (λ d has. subst (λ (l : List Difference). Contains l d) all_are (Contains-append_right values lines d has)) (count_other apart) in
     record {
       traced = traced;
       scope = scope;
@@ -814,16 +847,16 @@ takes_all found races line_races old new mid here there last races_are lines_are
       adds = subst (λ (l : List Difference). Adds t (Contains l) (group_heads old.groups.items) (group_heads new.groups.items)) all_are
           (adds_on t (Contains (values ++ lines)) (group_heads old.groups.items) (group_heads mid) (group_heads new.groups.items) first second);
       counts = λ apart. counts_on old.scope.names (IsNamedIn Values found.races.items (length found.races.items))
-          (IsNamedIn Lines found.line_races.items (length found.line_races.items)) old.groups.items mid new.groups.items
+          (IsNamedIn Lines found.line_races.items (length found.line_races.items)) Fits old.groups.items mid new.groups.items
           (λ n one other.
           (let here : Name = record { time = one.race.time; variable = Some one.race.variable } in
           let there : Name = record { time = other.race.time; variable = None } in
           let same = ap (λ (m : Name). m.variable) (same_Some here there (one.is ∙ sym other.is)) in
           cc))
-          (subst (λ (l : List Race). AreNamedApart Values l → Counts old.scope.names (IsNamedIn Values l (length l)) old.groups.items mid)
-          races_are count_one apart.0)
-          (subst (λ (l : List LineRace). AreNamedApart Lines l → Counts old.scope.names (IsNamedIn Lines l (length l)) mid new.groups.items)
-          lines_are count_other apart.1);
+          (subst (λ (l : List Race). AreNamedApart Values l → Counts old.scope.names (IsNamedIn Values l (length l)) Fits old.groups.items mid)
+          races_are fit_one apart.0)
+          (subst (λ (l : List LineRace). AreNamedApart Lines l → Counts old.scope.names (IsNamedIn Lines l (length l)) Fits mid new.groups.items)
+          lines_are fit_other apart.1);
       ends = subst (λ (x : Setting). SumsUp x (pairs_of found.ends.items) (pairs_of old.ends.items) (pairs_of new.ends.items)) last_is sums;
       cut_ends = subst (λ (x : Setting). SumsUpCuts x (pairs_of found.ends.items) (pairs_of old.ends.items) (pairs_of new.ends.items)
           (pairs_of old.cut_ends.items) (pairs_of new.cut_ends.items)) last_is sums_cuts;
@@ -857,8 +890,13 @@ pub takes_late : (time : ℕ) (found : FoundInSlot) (old mid new : RaceGroups) �
     (mid.ended ≡ false → (old.ended ≡ false) × (found.ends.items ≡ [])) → (mid.cut_runs ≡ false → (old.cut_runs ≡ false) × AreUncut (setting_of old)
     (pairs_of found.ends.items)) → TakesAll found mid new → TakesSlot time found old new
 takes_late time found old mid new late traced scope same ends cut_ends ended cut all =
-    let counts = subst (λ (s : Scope). AreApartInSlot found → Counts s.names (IsNamedInSlot found) old.groups.items new.groups.items) scope
-    (subst (λ (l : List Group). AreApartInSlot found → Counts mid.scope.names (IsNamedInSlot found) l new.groups.items) same all.counts) in
+    let Fits : Tracing → Option Cause → Name → Type 0 = λ t. ExplainsOne t (Contains (differences_in found)) in
+    let counts = subst (λ (t : Tracing). AreApartInSlot found → Counts old.scope.names (IsNamedInSlot found) (Fits t) old.groups.items
+    new.groups.items) traced
+    (subst (λ (s : Scope). AreApartInSlot found → Counts s.names (IsNamedInSlot found) (Fits (traced_by mid)) old.groups.items
+    new.groups.items) scope
+    (subst (λ (l : List Group). AreApartInSlot found → Counts mid.scope.names (IsNamedInSlot found) (Fits (traced_by mid)) l
+    new.groups.items) same all.counts)) in
     record {
       traced = all.traced ∙ traced;
       scope = all.scope ∙ scope;
@@ -919,10 +957,6 @@ takes_standing time found old mid new takes is = subst (TakesSlot time found old
 })
 
 -- what holds anyway
-pub always_ok : {U E P : Type 0} (result : Result U E) → P → OnOk result P
-always_ok (Ok u) p = p
-always_ok (Err e) p = tt
-
 -- ---- it grows
 
 pub grows_by : (tracing : Tracing) (P : Difference → Type 0) (old new : List GroupHead) → Adds tracing P old new → GrowsTo old new

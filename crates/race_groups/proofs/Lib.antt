@@ -1,4 +1,5 @@
 pub mod ListLemmas
+pub mod BlameLemmas
 pub mod AddsLemmas
 pub mod CountLemmas
 pub mod SideLemmas

@@ -370,10 +370,6 @@ pub grows_same : {A : Type 0} (old new : List A) → new ≡ old → GrowsTo old
 grows_same old new is = ([], is ∙ sym (append-nil old))
 
 -- of an answer both hold
-pub both_ok : {U E A B C : Type 0} (result : Result U E) → (A → B → C) → OnOk result A → OnOk result B → OnOk result C
-both_ok (Ok u) f a b = f a b
-both_ok (Err e) f a b = tt
-
 -- ---- the fewest departures
 
 -- where they stand in the order of their departures, the first that is kept has no more than any of them

@@ -19,6 +19,7 @@ use Rattle.vmachine.specs.declared.machine_state.MachineState.{MachineState}
 use Rattle.vmachine.specs.Machines.{Stands}
 use Rattle.racebook.specs.InTime.{EachEnd, IsClosed, IsEndOfRun}
 use Rattle.cause.specs.Causes.{HasNoCause, IsCause}
+use Rattle.race_groups.specs.Blame.{HasSameCause}
 use Rattle.race_groups.specs.declared.group.Difference.{Difference}
 use Rattle.race_groups.specs.declared.group.Difference.TheVariants.{Values, Lines, Ends}
 use Rattle.race_groups.specs.declared.group.Group.{Group}
@@ -186,23 +187,34 @@ pub record AreNamedOnce (groups : List Group) (rests : ℕ → List Name) : Type
   pub not_first : (i : ℕ) (group : Group) (name : Name) → slice_get groups i ≡ Some group → name_of group.first ≡ Some name →
       Contains (rests i) name → ⊥
 
--- what groups sum up are differences at these times, and none twice
-pub record NoneIsMadeUp (setting : Setting) (depart : ℕ) (groups : List Group) (rests : ℕ → List Name) (Within : ℕ → Type 0) : Type 0 where
+-- The group's cause explains the difference of this name: runs differ so within the limits, and what is told of the log of a side blames the
+-- same two statements as the group's cause. Where the group has no cause, none is told of the log.
+pub record IsExplained (setting : Setting) (limits : Limits) (group : Group) (name : Name) : Type 0 where
+  pub difference : Difference
+  pub named : name_of difference ≡ Some name
+  pub is : IsDifference setting limits difference
+  pub log : List (ℕ × ℕ)
+  pub of : IsLogOf difference log
+  pub same : HasSameCause setting limits.steps group.cause log
+
+-- what groups sum up are differences at these times, none twice, and each under its cause
+pub record NoneIsMadeUp (setting : Setting) (limits : Limits) (groups : List Group) (rests : ℕ → List Name) (Within : ℕ → Type 0) : Type 0 where
   pub differ : (i k : ℕ) (name : Name) → IsNamedAt groups rests i k name → Within name.time
-      × TwoRunsDifferIn setting depart name.time name.variable
+      × TwoRunsDifferIn setting limits.depart name.time name.variable
   pub named_once : AreNamedOnce groups rests
+  pub caused : (i k : ℕ) (name : Name) (is : IsNamedAt groups rests i k name) → IsExplained setting limits is.group name
 
 -- Wherever two runs of at most so many departures differ at these times (`Shown`), in a variable or in lines, a group has the difference.
 -- If memory wasn't refused meanwhile, it has no others.
-pub record AllAreCounted (setting : Setting) (depart names : ℕ) (groups : List Group) (refused : Option NoMemory)
+pub record AllAreCounted (setting : Setting) (limits : Limits) (names : ℕ) (groups : List Group) (refused : Option NoMemory)
     (Within : ℕ → Type 0) : Type 0 where
   pub rests : ℕ → List Name
   pub summaries : AllSummarize names groups rests
-  pub values : (time variable : ℕ) → Within time → TwoRunsDifferAt setting depart time variable →
+  pub values : (time variable : ℕ) → Within time → TwoRunsDifferAt setting limits.depart time variable →
       IsNameInOne groups rests (record { time = time; variable = Some variable })
-  pub lines : (time : ℕ) → Within time → TwoRunsPrintAt setting depart time →
+  pub lines : (time : ℕ) → Within time → TwoRunsPrintAt setting limits.depart time →
       IsNameInOne groups rests (record { time = time; variable = None })
-  pub none_made_up : refused ≡ None → NoneIsMadeUp setting depart groups rests Within
+  pub none_made_up : refused ≡ None → NoneIsMadeUp setting limits groups rests Within
 
 -- ---- where nothing is told
 
@@ -236,13 +248,13 @@ NoneIsCut setting depart Within = (log : List (ℕ × ℕ)) (steps : ℕ) → le
 
 -- from the scope's time up to the time that was closed every difference is counted
 abbrev pub TellsOfAll : Setting → Limits → Scope → Races → Type 0
-TellsOfAll setting limits scope races = AllAreCounted setting limits.depart scope.names races.groups.items races.refused
+TellsOfAll setting limits scope races = AllAreCounted setting limits scope.names races.groups.items races.refused
     (IsClosedFrom scope.from races.search.closed)
 
 -- and every difference from the scope's time on, where the status says so
 abbrev pub TellsOfAllThroughout : Setting → Limits → Scope → Races → Type 0
 TellsOfAllThroughout setting limits scope races = races.search.status ≡ Exhausted →
-    AllAreCounted setting limits.depart scope.names races.groups.items races.refused (λ time. scope.from ≤ time)
+    AllAreCounted setting limits scope.names races.groups.items races.refused (λ time. scope.from ≤ time)
 
 -- the first difference of each group is of a time from the scope's on, which was closed
 abbrev pub FirstsAreInTime : Setting → Scope → Races → Type 0

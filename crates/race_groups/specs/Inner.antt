@@ -1,6 +1,6 @@
 -- *internal*: Words for the contracts of calls within: what is kept of closed slots, group by group.
 use Rattle.std.specs.Prelude.{◌≡◌, ◌≢◌, Bool, false, ℕ, ◌+◌, ◌<◌, ◌≤◌, ◌⊎◌, List, [], ◌∷◌, ◌++◌, length, map, slice_get, min, Option, Some}
-use Rattle.std.specs.Prelude.{None, IfNone, IfSome, if◌then◌else◌}
+use Rattle.std.specs.Prelude.{None, if◌then◌else◌}
 use Rattle.std.specs.List.{Contains}
 use Rattle.std.proofs.Common.{append-nil, refl, subst, sym}
 use Rattle.basis.specs.declared.memory.NoMemory.{NoMemory}
@@ -18,8 +18,9 @@ use Rattle.racebook.specs.Races.{Race}
 use Rattle.racebook.specs.LineRaces.{LineRace}
 use Rattle.racebook.specs.Inner.{AreEndsOf, AreInTurn, HasEnded}
 use Rattle.racebook.specs.declared.slots.FoundInSlot.{FoundInSlot}
-use Rattle.cause.specs.Causes.{HasNoCause, IsCause}
 use Rattle.cause.specs.declared.cause.Cause.{Cause}
+use Rattle.race_groups.specs.Blame.{AreSameTwo, HasSameCause, blamed_by}
+use Rattle.race_groups.specs.Tracing.{IsTraced, Tracing}
 use Rattle.race_groups.specs.declared.causes.Causes.{Causes}
 use Rattle.race_groups.specs.declared.causes.Placed.{Placed}
 use Rattle.race_groups.specs.declared.causes.Placed.TheVariants.{With, Apart}
@@ -48,26 +49,30 @@ group_head group = record { cause = group.cause; log = group.log; first = group.
 abbrev pub group_heads : List Group → List GroupHead
 group_heads groups = map group_head groups
 
--- in which runs logs are traced to their causes, and how many steps a slot may take there
-pub record Tracing : Type 0 where
-  pub setting : Setting
-  pub steps : ℕ
-
+-- how logs are traced to their causes
 abbrev pub tracing_of : Causes → Tracing
-tracing_of causes = record { setting = causes.checkpoints; steps = causes.steps }
-
--- what was found is the cause of the log: one, or none within the steps
-abbrev pub IsTraced : Tracing → List (ℕ × ℕ) → Option Cause → Type 0
-IsTraced tracing log cause = IfSome cause (IsCause tracing.setting log) × IfNone cause (HasNoCause tracing.setting log tracing.steps)
+tracing_of causes = causes.table
 
 -- its cause is that of its log, and this is one of its first difference
 abbrev pub IsCaused : Tracing → GroupHead → Type 0
 IsCaused tracing t = IsTraced tracing t.log t.cause × IsLogOf t.first t.log
 
--- a log belongs to the group at a place, or to none, with its cause
-abbrev pub IsPlaced : Tracing → ℕ → List (ℕ × ℕ) → Placed → Type 0
-IsPlaced tracing count log (With place) = place < count
-IsPlaced tracing count log (Apart cause) = IsTraced tracing log cause
+-- the group at the place blames the same statements as what is told of the log
+pub record IsWith (tracing : Tracing) (groups : List Group) (log : List (ℕ × ℕ)) (place : ℕ) : Type 0 where
+  pub group : Group
+  pub at : slice_get groups place ≡ Some group
+  pub same : HasSameCause tracing.setting tracing.steps group.cause log
+
+-- a log belongs to such a group, or to none, with its cause
+abbrev pub IsPlaced : Tracing → List Group → List (ℕ × ℕ) → Placed → Type 0
+IsPlaced tracing groups log (With place) = IsWith tracing groups log place
+IsPlaced tracing groups log (Apart cause) = IsTraced tracing log cause
+
+-- the group at the place blames these two statements, in one order or the other
+pub record HasPairAt (groups : List Group) (pair : Option (ℕ × ℕ)) (place : ℕ) : Type 0 where
+  pub group : Group
+  pub at : slice_get groups place ≡ Some group
+  pub same : AreSameTwo (blamed_by group.cause) pair
 
 -- groups stand behind those that there were, of such differences, each with its cause
 pub record Adds (tracing : Tracing) (P : Difference → Type 0) (old new : List GroupHead) : Type 0 where
@@ -116,18 +121,48 @@ pub record SummarizesStill (names : ℕ) (old : List Group) (before : ℕ → Li
 abbrev pub CountsStill : ℕ → List Group → List Group → Type 0
 CountsStill names old new = (before : ℕ → List Name) → AllSummarize names old before → SummarizesStill names old before new
 
--- they have those that are new, too, and no others; each once, if none of them was there
-pub record SummarizesMore (names : ℕ) (IsNew : Name → Type 0) (old : List Group) (before : ℕ → List Name) (new : List Group) : Type 0 where
+-- a group of this cause sums up the name
+pub record IsSummedUp (groups : List Group) (rests : ℕ → List Name) (cause : Option Cause) (name : Name) : Type 0 where
+  pub place : ℕ
+  pub group : Group
+  pub at : slice_get groups place ≡ Some group
+  pub under : group.cause ≡ cause
+  pub among : Contains (rests place) name
+
+-- They have those that are new, too, and no others; each once, if none of them was there. What a group sums up that is new fits its cause.
+pub record SummarizesMore (names : ℕ) (IsNew : Name → Type 0) (Fits : Option Cause → Name → Type 0) (old : List Group) (before : ℕ → List Name)
+    (new : List Group) : Type 0 where
   pub after : ℕ → List Name
   pub summaries : AllSummarize names new after
   pub still : (place : ℕ) (name : Name) → IsNameIn old before place name → IsNameIn new after place name
   pub named : (name : Name) → IsNew name → IsNameInOne new after name
   pub only : (name : Name) → IsNameInOne new after name → IsNameInOne old before name ⊎ IsNew name
   pub once : ((name : Name) → IsNew name → IsNameInOne old before name → ⊥) → AreNamedOnce old before → AreNamedOnce new after
+  pub caused : (cause : Option Cause) (name : Name) → IsSummedUp new after cause name → IsSummedUp old before cause name ⊎ Fits cause name
 
 -- so it is, whatever they summed up
-abbrev pub Counts : ℕ → (Name → Type 0) → List Group → List Group → Type 0
-Counts names IsNew old new = (before : ℕ → List Name) → AllSummarize names old before → SummarizesMore names IsNew old before new
+abbrev pub Counts : ℕ → (Name → Type 0) → (Option Cause → Name → Type 0) → List Group → List Group → Type 0
+Counts names IsNew Fits old new = (before : ℕ → List Name) → AllSummarize names old before →
+    SummarizesMore names IsNew Fits old before new
+
+-- the group at the place has this cause
+abbrev pub HasCauseAt : List Group → ℕ → Option Cause → Type 0
+HasCauseAt groups place cause = (group : Group) × (slice_get groups place ≡ Some group) × (group.cause ≡ cause)
+
+-- no cause is fit
+abbrev pub NoneFits : Option Cause → Name → Type 0
+NoneFits cause name = ⊥
+
+-- the difference has the name, and what is told of the log of a side blames the same statements as the cause
+pub record Explains (tracing : Tracing) (difference : Difference) (cause : Option Cause) (name : Name) : Type 0 where
+  pub named : name_of difference ≡ Some name
+  pub log : List (ℕ × ℕ)
+  pub of : IsLogOf difference log
+  pub same : HasSameCause tracing.setting tracing.steps cause log
+
+-- so it is of one of these
+abbrev pub ExplainsOne : Tracing → (Difference → Type 0) → Option Cause → Name → Type 0
+ExplainsOne tracing P cause name = (difference : Difference) × P difference × Explains tracing difference cause name
 
 abbrev pub NoName : Name → Type 0
 NoName name = ⊥
@@ -171,7 +206,7 @@ IsNamedInSlot found name = IsNamedIn Values found.races.items (length found.race
     ⊎ IsNamedIn Lines found.line_races.items (length found.line_races.items) name
 
 abbrev pub setting_of : RaceGroups → Setting
-setting_of kept = kept.causes.checkpoints
+setting_of kept = kept.causes.table.setting
 
 abbrev pub traced_by : RaceGroups → Tracing
 traced_by kept = tracing_of kept.causes
@@ -292,7 +327,8 @@ pub record TakesAll (found : FoundInSlot) (old new : RaceGroups) : Type 0 where
   pub ended : new.ended ≡ old.ended
   pub cut : new.cut_runs ≡ old.cut_runs
   pub adds : Adds (traced_by old) (Contains (differences_in found)) (group_heads old.groups.items) (group_heads new.groups.items)
-  pub counts : AreApartInSlot found → Counts old.scope.names (IsNamedInSlot found) old.groups.items new.groups.items
+  pub counts : AreApartInSlot found → Counts old.scope.names (IsNamedInSlot found)
+      (ExplainsOne (traced_by old) (Contains (differences_in found))) old.groups.items new.groups.items
   pub ends : SumsUp (setting_of old) (pairs_of found.ends.items) (pairs_of old.ends.items) (pairs_of new.ends.items)
   pub cut_ends : SumsUpCuts (setting_of old) (pairs_of found.ends.items) (pairs_of old.ends.items) (pairs_of new.ends.items)
       (pairs_of old.cut_ends.items) (pairs_of new.cut_ends.items)
@@ -303,7 +339,8 @@ pub record TakesSlot (time : ℕ) (found : FoundInSlot) (old new : RaceGroups) :
   pub scope : new.scope ≡ old.scope
   pub adds : Adds (traced_by old) (Contains (differences_in found)) (group_heads old.groups.items) (group_heads new.groups.items)
   pub early : time < old.scope.from → new.groups.items ≡ old.groups.items
-  pub counts : old.scope.from ≤ time → AreApartInSlot found → Counts old.scope.names (IsNamedInSlot found) old.groups.items new.groups.items
+  pub counts : old.scope.from ≤ time → AreApartInSlot found → Counts old.scope.names (IsNamedInSlot found)
+      (ExplainsOne (traced_by old) (Contains (differences_in found))) old.groups.items new.groups.items
   pub before : time < old.scope.from → new.ends.items ≡ old.ends.items
   pub ends : old.scope.from ≤ time → SumsUp (setting_of old) (pairs_of found.ends.items) (pairs_of old.ends.items) (pairs_of new.ends.items)
   pub cuts_before : time < old.scope.from → new.cut_ends.items ≡ old.cut_ends.items
@@ -394,14 +431,17 @@ pub record IsNamedByOne (setting : Setting) (from : ℕ) (closings : List (Closi
   pub shown : IsShownBy setting closings place closing difference
   pub is : name_of difference ≡ Some name
 
--- from this time on each difference that a closing shows is in a group; if memory wasn't refused, no other is, and none twice
-pub record HaveAllOf (setting : Setting) (scope : Scope) (groups : List Group) (refused : Option NoMemory)
+-- From this time on each difference that a closing shows is in a group. If memory wasn't refused, no other is, and none twice; and each that a
+-- group sums up has a side that its cause explains.
+pub record HaveAllOf (tracing : Tracing) (scope : Scope) (groups : List Group) (refused : Option NoMemory)
     (closings : List (Closing MachineState)) : Type 0 where
   pub rests : ℕ → List Name
   pub summaries : AllSummarize scope.names groups rests
-  pub shown : ShowNamedFrom setting scope.from (IsNameInOne groups rests) closings
-  pub only : refused ≡ None → (name : Name) → IsNameInOne groups rests name → IsNamedByOne setting scope.from closings name
-  pub once : refused ≡ None → AreInTurn setting closings → AreNamedOnce groups rests
+  pub shown : ShowNamedFrom tracing.setting scope.from (IsNameInOne groups rests) closings
+  pub only : refused ≡ None → (name : Name) → IsNameInOne groups rests name → IsNamedByOne tracing.setting scope.from closings name
+  pub once : refused ≡ None → AreInTurn tracing.setting closings → AreNamedOnce groups rests
+  pub caused : refused ≡ None → (cause : Option Cause) (name : Name) → IsSummedUp groups rests cause name →
+      ExplainsOne tracing (IsOfSome tracing.setting scope.from closings) cause name
 
 -- a closing of this rank has marks, and none behind it has any; where there is none, none at all has
 pub record IsLastWithMarks (closings : List (Closing MachineState)) (rank : ℕ) : Type 0 where
@@ -422,7 +462,7 @@ pub record AreGroupsOf (tracing : Tracing) (scope : Scope) (groups : List Group)
     (closings : List (Closing MachineState)) : Type 0 where
   pub causes : (t : GroupHead) → Contains heads t → IsCaused tracing t
   pub firsts : (t : GroupHead) → Contains heads t → IsOfSome tracing.setting scope.from closings t.first
-  pub all : HaveAllOf tracing.setting scope groups refused closings
+  pub all : HaveAllOf tracing scope groups refused closings
   pub ends : (end : MachineState × List (ℕ × ℕ)) → Contains kept end → IsEndOfSome tracing.setting scope.from closings end
   pub no_end : kept ≡ [] → OfEachFrom scope.from closings (λ marks. AreEndsOf tracing.setting marks [])
   pub alike : (one : MachineState × List (ℕ × ℕ)) → kept ≡ one ∷ [] →

@@ -108,9 +108,9 @@ fn told_of(found: RaceGroups) -> Result<Told, NoMemory>
 ///
 /// However the search ended: wherever two runs within the limit of departures show different values of a variable, or different lines,
 /// at the end of a slot, from the time `scope.from` on and up to the time `search.closed`, a group counts it; and if memory
-/// wasn't refused meanwhile (`refused`), groups count nothing else, and nothing twice. Where the search is exhausted, so it is at
-/// every time from `scope.from` on, and no run within the limit of departures ends later than `search.closed`, which is a time at
-/// which a run within the limits is at the end of a slot, or ends. Where it tells no group, at these times no two such runs differ
+/// wasn't refused meanwhile (`refused`), groups count nothing else, nothing twice, and each under the cause of a side of it. Where the
+/// search is exhausted, so it is at every time from `scope.from` on, and no run within the limit of departures ends later than
+/// `search.closed`, which is a time at which a run within the limits is at the end of a slot, or ends. Where it tells no group, at these times no two such runs differ
 /// at the end of a slot, none print other lines, and all that end do so alike. Two that end at different times, by different causes, or
 /// print different lines in a slot that `$finish` or `$stop` cuts, are told in a group of their own, whatever other groups there are;
 /// where they differ in the values alone that such a slot leaves, `cut_ends` has two of them. `ended` says whether a run ended at all. What is before `scope.from` is left out.

@@ -3,8 +3,9 @@
 ghost use Rattle.std.specs.Prelude.{◌≡◌, ◌<◌, ℕ, IfOk, OnOk, false, length, map, true};
 ghost use Rattle.std.specs.List.{Contains};
 ghost use Rattle.race_groups.specs.Found.{IsLogOf, logs_of};
-ghost use Rattle.race_groups.specs.Inner.{Adds, AreNamedApart, Counts, CountsStill, HasName, IsDefault, IsNamedIn, IsTraced, Tracing};
-ghost use Rattle.race_groups.specs.Inner.{Widens, group_heads, tracing_of};
+ghost use Rattle.race_groups.specs.Inner.{Adds, AreNamedApart, Counts, CountsStill, ExplainsOne, HasCauseAt, HasName, IsDefault};
+ghost use Rattle.race_groups.specs.Inner.{IsNamedIn, NoneFits, Widens, group_heads, tracing_of};
+ghost use Rattle.race_groups.specs.Tracing.{IsTraced, Tracing};
 
 use crate::causes::{Causes, Placed};
 use crate::group::{Group, Name};
@@ -20,7 +21,8 @@ fn follow(groups: &mut Vec<Group>, place: usize, name: Name, names: usize) -> Re
     requires { place < length groups.old.items }
     ensures told { group_heads groups.new.items ≡ group_heads groups.old.items }
     ensures still { CountsStill names groups.old.items groups.new.items }
-    ensures counts { OnOk result (Counts names (λ n. name ≡ n) groups.old.items groups.new.items) }
+    ensures counts { OnOk result (Counts names (λ n. name ≡ n) (λ cause n. (name ≡ n) × HasCauseAt groups.old.items place cause)
+        groups.old.items groups.new.items) }
 {
     let group = &mut groups[place];
     group.follow(name, names)
@@ -38,7 +40,7 @@ fn open<R: SlotRace>(
     ensures adds { (tracing : Tracing) → IsTraced tracing log.now cause → IsLogOf (R.difference race.now) log.now →
         Adds tracing (λ d. d ≡ R.difference race.now) (group_heads groups.old.items) (group_heads groups.new.items) }
     ensures still { (names : ℕ) → CountsStill names groups.old.items groups.new.items }
-    ensures counts { OnOk result ((names : ℕ) → Counts names (HasName (R.difference race.now))
+    ensures counts { OnOk result ((names : ℕ) → Counts names (HasName (R.difference race.now)) NoneFits
         groups.old.items groups.new.items) }
     ensures widens { OnOk result (Widens (R.difference race.now) groups.old.items groups.new.items) }
 {
@@ -70,7 +72,7 @@ fn put_side<R: SlotRace>(
         (group_heads groups.old.items) (group_heads groups.new.items) }
     ensures still { CountsStill names groups.old.items groups.new.items }
     ensures counts { OnOk result (counted ≡ false → Counts names (HasName (R.difference race.now))
-        groups.old.items groups.new.items) }
+        (ExplainsOne (tracing_of causes.old) (λ d. d ≡ R.difference race.now)) groups.old.items groups.new.items) }
     ensures widens { OnOk result (counted ≡ true → Widens (R.difference race.now) groups.old.items groups.new.items) }
 {
     match causes.place(groups, log)? {
@@ -99,7 +101,7 @@ fn put_departed<R: SlotRace>(
         (group_heads groups.old.items) (group_heads groups.new.items) }
     ensures still { CountsStill names groups.old.items groups.new.items }
     ensures counts { IfOk result (λ is. is ≡ true → counted ≡ false → Counts names (HasName (R.difference race.now))
-        groups.old.items groups.new.items) }
+        (ExplainsOne (tracing_of causes.old) (λ d. d ≡ R.difference race.now)) groups.old.items groups.new.items) }
     ensures widens { IfOk result (λ is. counted ≡ true → Widens (R.difference race.now) groups.old.items groups.new.items) }
     ensures default { IfOk result (λ is. is ≡ false → (counted ≡ false)
         × IsDefault (logs_of (R.difference race.now)) side × (groups.new.items ≡ groups.old.items)) }
@@ -125,7 +127,7 @@ fn put<R: SlotRace>(
         (group_heads groups.old.items) (group_heads groups.new.items) }
     ensures still { CountsStill names groups.old.items groups.new.items }
     ensures counts { OnOk result (Counts names (HasName (R.difference race.now))
-        groups.old.items groups.new.items) }
+        (ExplainsOne (tracing_of causes.old) (λ d. d ≡ R.difference race.now)) groups.old.items groups.new.items) }
 {
     let mut counted = false;
     for side in 0..race.sides() {
@@ -150,7 +152,8 @@ pub(crate) fn put_all<R: SlotRace>(
         (group_heads groups.old.items) (group_heads groups.new.items) }
     ensures still { CountsStill names groups.old.items groups.new.items }
     ensures counts { OnOk result (AreNamedApart R.difference races.now →
-        Counts names (IsNamedIn R.difference races.now (length races.now)) groups.old.items groups.new.items) }
+        Counts names (IsNamedIn R.difference races.now (length races.now))
+        (ExplainsOne (tracing_of causes.old) (Contains (map R.difference races.now))) groups.old.items groups.new.items) }
 {
     for race in races {
         put(causes, groups, names, race)?;

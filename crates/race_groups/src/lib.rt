@@ -4,6 +4,7 @@
 // and its cause is one.
 #![tactic(auto)]
 
+mod blame_table;
 mod causes;
 mod collected;
 mod ends;

@@ -45,11 +45,11 @@ impl Drop for FoundRaces {
 ///
 /// Each difference told is one, and each cause is that of its log. Wherever two such runs differ from the time `scope.from` on, up to the
 /// time `races.search.closed`, a group counts the difference; where the search is exhausted, at every time. If memory wasn't refused
-/// meanwhile, groups count nothing else, and nothing twice. Where none is told, none differ. Two runs that end at different times, by
-/// different causes, or with other lines in a slot that `$finish` or `$stop` cuts, are told in a group of their own, whatever other groups
-/// there are; where only the values differ that such a slot leaves, `races.cut_ends` has two of them. Where it isn't said that a run was
-/// cut by the time limit, so none was, up to that time. `Cut(Entries)` is said only where there are so many entries, `Cut(Steps)` only where a
-/// run takes more steps.
+/// meanwhile, groups count nothing else, nothing twice, and each under the cause of a side of it. Where none is told, none differ. Two
+/// runs that end at different times, by different causes, or with other lines in a slot that `$finish` or `$stop` cuts, are told in a
+/// group of their own, whatever other groups there are; where only the values differ that such a slot leaves, `races.cut_ends` has two of
+/// them. Where it isn't said that a run was cut by the time limit, so none was, up to that time. `Cut(Entries)` is said only where there
+/// are so many entries, `Cut(Steps)` only where a run takes more steps.
 ///
 /// Refusals, in the order in which they are looked for: E904 where the files together are longer than 16,777,216 bytes; E110 to
 /// E114, E101, E102, E2xx and E3xx where their text has no design; E901.

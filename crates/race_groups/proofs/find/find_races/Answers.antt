@@ -1,5 +1,6 @@
 use Rattle.std.proofs.Common.{subst, ◌∙◌}
-use Rattle.race_groups.specs.Inner.{AreTold, Tracing}
+use Rattle.race_groups.specs.Inner.{AreTold}
+use Rattle.race_groups.specs.Tracing.{Tracing}
 use Rattle.race_groups.proofs.FoundLemmas.{handed_so, is_told, kept_so}
 use Rattle.race_groups.proofs.find.find_races.Goals as goal
 

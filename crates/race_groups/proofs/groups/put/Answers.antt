@@ -2,9 +2,9 @@ use Rattle.std.proofs.Common.{◌≡◌, List, Some, refl, subst, ◌∙◌, ari
 use Rattle.std.proofs.lemmas.Result.{on_ok_weaker}
 use Rattle.race_groups.specs.Found.{logs_of, name_of}
 use Rattle.race_groups.specs.declared.group.Group.{Group}
-use Rattle.race_groups.specs.Inner.{Counts, group_heads, tracing_of}
+use Rattle.race_groups.specs.Inner.{Counts, ExplainsOne, group_heads, tracing_of}
 use Rattle.race_groups.proofs.AddsLemmas.{adds_none, adds_then}
-use Rattle.race_groups.proofs.CountLemmas.{side_more, still_none, still_on}
+use Rattle.race_groups.proofs.CountLemmas.{explained_by, side_more, still_none, still_on}
 use Rattle.race_groups.proofs.SideLemmas.{no_departed_log, none_looked_at, one_more}
 use Rattle.race_groups.proofs.groups.put.Goals as goal
 
@@ -38,6 +38,7 @@ returns-in_err-counted-clause-still g c =
 
 pub loop-side-preserved : goal.loop-side-preserved
 loop-side-preserved g c =
+    let d = g.R.SlotRace.difference c.args.race.now in
     let groups = c.args.groups.now.items in
     let mid = c.loop-side.groups.items in
     let new = c.put_departed.new.groups.items in (
@@ -46,8 +47,10 @@ loop-side-preserved g c =
           (group_heads groups) (group_heads mid)
           (group_heads new) c.loop-side.invariant.0 c.loop-side.invariant.1 c.put_departed.ensures.adds,
       still_on c.args.names groups mid new c.loop-side.invariant.2 c.put_departed.ensures.still,
-      λ e. side_more c.args.names (g.R.SlotRace.difference c.args.race.now) groups mid new c.loop-side.counted c.loop-side.invariant.3
-          c.loop-side.invariant.5 c.in_ok-counted.ensures.widens (c.in_ok-counted.ensures.counts e),
+      λ e. side_more c.args.names d (ExplainsOne (tracing_of c.args.causes.now) (λ e. e ≡ d)) groups mid new c.loop-side.counted
+          c.loop-side.invariant.3 c.loop-side.invariant.5 c.in_ok-counted.ensures.widens
+          (λ f. explained_by c.args.names (λ n. name_of d ≡ Some n) (tracing_of c.loop-side.causes) (tracing_of c.args.causes.now)
+          (λ e. e ≡ d) (λ e. e ≡ d) mid new c.loop-side.invariant.0 (λ e p. p) (c.in_ok-counted.ensures.counts e f)),
       λ e. (let was = c.in_ok-counted.ensures.default e in
           one_more (logs_of (g.R.SlotRace.difference c.args.race.now)) c.loop-side.side (c.loop-side.invariant.4 was.0) was.1),
       λ e. (let was = c.in_ok-counted.ensures.default e in was.2 ∙ c.loop-side.invariant.5 was.0),
@@ -68,6 +71,10 @@ returns-clause-still g c = still_on c.args.names c.args.groups.now.items c.loop-
 
 pub returns-clause-counts : goal.returns-clause-counts
 returns-clause-counts g c =
+    let d = g.R.SlotRace.difference c.args.race.now in
+    let new = c.put_side.new.groups.items in
+    let Fits = ExplainsOne (tracing_of c.args.causes.now) (λ e. e ≡ d) in
     on_ok_weaker c.put_side.result
-    (λ so. subst (λ (l : List Group). Counts c.args.names (λ n. name_of (g.R.SlotRace.difference c.args.race.now) ≡ Some n) l
-    c.put_side.new.groups.items) (c.loop-side.invariant.5 c.if-counted.false) (so refl)) c.put_side.ensures.counts
+    (λ so. subst (λ (l : List Group). Counts c.args.names (λ n. name_of d ≡ Some n) Fits l new) (c.loop-side.invariant.5 c.if-counted.false)
+    (explained_by c.args.names (λ n. name_of d ≡ Some n) (tracing_of c.loop-side.causes) (tracing_of c.args.causes.now) (λ e. e ≡ d)
+    (λ e. e ≡ d) c.loop-side.groups.items new c.loop-side.invariant.0 (λ e p. p) (so refl))) c.put_side.ensures.counts

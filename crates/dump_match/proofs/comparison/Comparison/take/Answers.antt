@@ -1,4 +1,5 @@
-use Rattle.dump_match.proofs.ComparedLemmas.{ok_both, ok_so, takes_one, takes_repeated, takes_width}
+use Rattle.explore.proofs.ListingLemmas.{both_ok}
+use Rattle.dump_match.proofs.ComparedLemmas.{ok_so, takes_one, takes_repeated, takes_width}
 use Rattle.dump_match.proofs.comparison.Comparison.take.Goals as goal
 
 pub returns-in-Compared-clause-takes : goal.returns-in-Compared-clause-takes
@@ -20,13 +21,13 @@ returns-in-Compared-meet-clause-takes c wrapped variables like met = ok_so c.pus
     c.args.self.now.pairs.items c.in-Same.is c.meet-in-Same.ensures c.in-Compared-meet.is met)
 
 pub returns-in-OtherWidth-meet-2-clause-takes : goal.returns-in-OtherWidth-meet-2-clause-takes
-returns-in-OtherWidth-meet-2-clause-takes c wrapped variables like met = ok_both c.follow.result
+returns-in-OtherWidth-meet-2-clause-takes c wrapped variables like met = both_ok c.follow.result
     (λ keeps compared. takes_one wrapped variables c.args.told.now c.args.likeness c.in-Same.number c.args.met.now c.meet-in-Same.new.met
     c.meet-in-Same.result c.args.self.now.pairs.items c.follow.new.self.pairs.items c.in-Same.is like keeps compared c.meet-in-Same.ensures met)
     c.follow.ensures.keeps c.follow.ensures.compared
 
 pub returns-in-Unmet-meet-clause-takes : goal.returns-in-Unmet-meet-clause-takes
-returns-in-Unmet-meet-clause-takes c wrapped variables like met = ok_both c.follow-in-Unmet-meet.result
+returns-in-Unmet-meet-clause-takes c wrapped variables like met = both_ok c.follow-in-Unmet-meet.result
     (λ keeps compared. takes_one wrapped variables c.args.told.now c.args.likeness c.in-Same.number c.args.met.now c.meet-in-Same.new.met
     c.meet-in-Same.result c.args.self.now.pairs.items c.follow-in-Unmet-meet.new.self.pairs.items c.in-Same.is like keeps compared
     c.meet-in-Same.ensures met)

@@ -1,7 +1,9 @@
 use Rattle.std.proofs.Common.{ap, refl, ◌∙◌}
-use Rattle.race_groups.specs.Inner.{Tracing, tracing_of}
+use Rattle.race_groups.specs.Inner.{tracing_of}
+use Rattle.race_groups.specs.Tracing.{Tracing}
 use Rattle.race_groups.proofs.KeptLemmas.{grows_all, takes_all}
-use Rattle.race_groups.proofs.SumLemmas.{both_ok, grows_none}
+use Rattle.explore.proofs.ListingLemmas.{both_ok}
+use Rattle.race_groups.proofs.SumLemmas.{grows_none}
 use Rattle.race_groups.proofs.collected.RaceGroups.put_found.Goals as goal
 
 pub returns-clause-ok : goal.returns-clause-ok

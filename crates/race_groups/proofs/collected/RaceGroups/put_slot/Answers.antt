@@ -19,7 +19,7 @@ returns-clause-ok c =
     (λ none. (let e = c.either-self-2.ensures none in (e.0, sym c.deref-2.ensures.value ∙ c.some_ends.ensures e.1)))
     (λ none. (let e = c.either-self.ensures none in (
       e.0,
-      subst (λ (l : List (FoundMark MachineState)). AreUncut old.causes.checkpoints (pairs_of l)) c.deref.ensures.value
+      subst (λ (l : List (FoundMark MachineState)). AreUncut old.causes.table.setting (pairs_of l)) c.deref.ensures.value
           (subst (λ (s : Setting). AreUncut s (pairs_of c.deref.result.now)) c.machine.ensures (c.some_is_cut-is_cut.ensures e.1)),
     )))
     all) c.put_found.ensures.ok
@@ -31,7 +31,7 @@ returns-then-time-self-clause-ok c =
     (λ none. (let e = c.either-self-2.ensures none in (e.0, sym c.deref-2.ensures.value ∙ c.some_ends.ensures e.1)))
     (λ none. (let e = c.either-self.ensures none in (
       e.0,
-      subst (λ (l : List (FoundMark MachineState)). AreUncut old.causes.checkpoints (pairs_of l)) c.deref.ensures.value
+      subst (λ (l : List (FoundMark MachineState)). AreUncut old.causes.table.setting (pairs_of l)) c.deref.ensures.value
           (subst (λ (s : Setting). AreUncut s (pairs_of c.deref.result.now)) c.machine.ensures (c.some_is_cut-is_cut.ensures e.1)),
     )))
 

@@ -20,12 +20,12 @@ returns-in-Ok-clause-ok c =
     length-map marks.items (λ (f : FoundMark MachineState). (f.state, f.log)) in
     let old = c.args.self.now in
     let rank = c.args.closed.rank in
-    let found_so : IsFoundAt old.causes.checkpoints rank (pairs_of marks.items) c.deref.result.now c.in_ok-found.found =
+    let found_so : IsFoundAt old.causes.table.setting rank (pairs_of marks.items) c.deref.result.now c.in_ok-found.found =
     subst (λ (s : Setting). IsFoundAt s rank (pairs_of marks.items) c.deref.result.now c.in_ok-found.found) c.machine.ensures
     c.in_ok-found.ensures in
     collects_more old (record c.take_slot.new.self { seen = c.seen_by-self.result })
     (record { rank = rank; marks = pairs_of marks.items }) c.in_ok-found.found
-    (subst (λ (l : List Standing). IsFoundAt old.causes.checkpoints rank (pairs_of marks.items) l c.in_ok-found.found)
+    (subst (λ (l : List Standing). IsFoundAt old.causes.table.setting rank (pairs_of marks.items) l c.in_ok-found.found)
     c.deref.ensures.value found_so)
     (takes_seen rank c.in_ok-found.found.found old c.take_slot.new.self c.seen_by-self.result c.in-Ok.ensures.ok)
     (λ none. c.seen_by-self.ensures.none (omega (arith, c.len-marks.ensures, ok, long, none)) ∙ c.take_slot.ensures.seen)
