@@ -956,7 +956,6 @@ takes_standing time found old mid new takes is = subst (TakesSlot time found old
   cut = takes.cut;
 })
 
--- what holds anyway
 -- ---- it grows
 
 pub grows_by : (tracing : Tracing) (P : Difference → Type 0) (old new : List GroupHead) → Adds tracing P old new → GrowsTo old new

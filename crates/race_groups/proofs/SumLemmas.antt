@@ -369,7 +369,6 @@ module _ (setting : Setting) (s r : MachineState) (end end' : Option End) (print
 pub grows_same : {A : Type 0} (old new : List A) → new ≡ old → GrowsTo old new
 grows_same old new is = ([], is ∙ sym (append-nil old))
 
--- of an answer both hold
 -- ---- the fewest departures
 
 -- where they stand in the order of their departures, the first that is kept has no more than any of them
