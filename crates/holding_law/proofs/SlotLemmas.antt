@@ -83,13 +83,13 @@ whole_counts false true false t n same is = is
 whole_counts false false true t n same is = is
 whole_counts false false false t n same is = is
 
-none_counts : (l : Bool) → 0 ≡ cond l 0 0
-none_counts true = refl
-none_counts false = refl
+none_counts : (l : Bool) (n : ℕ) → n ≡ cond l n n
+none_counts true n = refl
+none_counts false n = refl
 
 -- the whole lines of a list are there as often as in the list
 times-whole : (line : List ℕ) (lines : List (List ℕ)) → times_in line (whole_lines lines) ≡ cond (is_whole line) (times_in line lines) 0
-times-whole line [] = none_counts (is_whole line)
+times-whole line [] = none_counts (is_whole line) 0
 times-whole line (one ∷ lines) =
     times-cond line one (whole_lines lines) (is_whole one)
     ∙ whole_counts (pointwise nat_eq line one) (is_whole one) (is_whole line) (times_in line (whole_lines lines)) (times_in line lines)
@@ -108,8 +108,8 @@ bag-with_text text printed bag is = record {
         arith,
         times-with_each line (lines_of (piece_of bag ++ text)) (whole_lines bag),
         times-whole line bag
-        ∙ ap (λ (n : ℕ). cond (is_whole line) n 0) (is.times line)
-        ∙ sym (times-whole line (lines_of printed)),
+            ∙ ap (λ (n : ℕ). cond (is_whole line) n 0) (is.times line)
+            ∙ sym (times-whole line (lines_of printed)),
         ap (λ (piece : List ℕ). times_in line (lines_of (piece ++ text))) is.piece,
         ap (times_in line) (lines_of-append printed text),
         times-both line (whole_lines (lines_of printed)) (lines_of (piece_of (lines_of printed) ++ text)),
