@@ -71,7 +71,7 @@ compared_last pairs pair = record { place = length pairs; pair = pair; in_pairs 
 
 module _ (wrapped : Bool) (variables : List Variable) where
   -- variables that are like one of the files have as many bits
-  pub followed : (told : VcdVariable) (number : ℕ) (pairs : List Pair) → IsLike wrapped variables told number →
+  followed : (told : VcdVariable) (number : ℕ) (pairs : List Pair) → IsLike wrapped variables told number →
       (1 ≤ told.width → told.width ≤ 64 → IsCompared pairs number) → IsFollowed wrapped variables pairs number
   followed told number pairs like compared other alike low high =
       let same : like.variable ≡ alike.variable = same_Some like.variable alike.variable (sym like.in_files ∙ alike.in_files) in
@@ -79,7 +79,7 @@ module _ (wrapped : Bool) (variables : List Variable) where
       compared (omega (arith, width, low)) (omega (arith, width, high))
 
   -- the same pairs are enough
-  pub takes_none : (told : VcdVariable) (likeness : Likeness) (old new : List Meeting) (pairs more : List Pair) → more ≡ pairs →
+  takes_none : (told : VcdVariable) (likeness : Likeness) (old new : List Meeting) (pairs more : List Pair) → more ≡ pairs →
       ((place : ℕ) → slice_get new place ≡ Some Compared → slice_get old place ≡ Some Compared) →
       ((number : ℕ) → likeness ≡ Same number → number < length old → slice_get old number ≡ Some Compared) →
       AreMet wrapped variables old pairs → TakesMore wrapped variables told likeness old new pairs more
@@ -90,27 +90,27 @@ module _ (wrapped : Bool) (variables : List Variable) where
   }
 
   -- where it has another width
-  pub takes_width : (told : VcdVariable) (likeness : Likeness) (number : ℕ) (old new : List Meeting) (before : Meeting) (pairs : List Pair) →
+  width_taken : (told : VcdVariable) (likeness : Likeness) (number : ℕ) (old new : List Meeting) (before : Meeting) (pairs : List Pair) →
       likeness ≡ OtherWidth number → MeetsAt old new number WithOther before → AreMet wrapped variables old pairs →
       TakesMore wrapped variables told likeness old new pairs pairs
-  takes_width told likeness number old new before pairs is meets met = takes_none told likeness old new pairs pairs refl
+  width_taken told likeness number old new before pairs is meets met = takes_none told likeness old new pairs pairs refl
       (λ place at. elim (meets.only place at) [ inl was ↦ was | inr x ↦ absurd (let e = x.1 in cc) ]) (λ other same lt. absurd cc) met
 
   -- or what it is like was compared before
-  pub takes_repeated : (told : VcdVariable) (likeness : Likeness) (number : ℕ) (old new : List Meeting) (before : Meeting) (pairs : List Pair) →
+  repeated_taken : (told : VcdVariable) (likeness : Likeness) (number : ℕ) (old new : List Meeting) (before : Meeting) (pairs : List Pair) →
       likeness ≡ Same number → MeetsAt old new number Compared before → before ≡ Compared → AreMet wrapped variables old pairs →
       TakesMore wrapped variables told likeness old new pairs pairs
-  takes_repeated told likeness number old new before pairs is meets was_compared met = takes_none told likeness old new pairs pairs refl
+  repeated_taken told likeness number old new before pairs is meets was_compared met = takes_none told likeness old new pairs pairs refl
       (λ place at. elim (meets.only place at) [ inl was ↦ was | inr x ↦ absurd (x.2 was_compared) ])
       (λ other same lt. (let e : number ≡ other = cc in
       subst (λ (k : ℕ). slice_get old k ≡ Some Compared) e (meets.there (omega (arith, e, lt)) was_compared))) met
 
   -- one more pair
-  pub takes_one : (told : VcdVariable) (likeness : Likeness) (number : ℕ) (old new : List Meeting) (before : Meeting) (pairs more : List Pair) →
+  one_taken : (told : VcdVariable) (likeness : Likeness) (number : ℕ) (old new : List Meeting) (before : Meeting) (pairs more : List Pair) →
       likeness ≡ Same number → IfSame likeness (IsLike wrapped variables told) → KeepsCompared pairs more →
       (1 ≤ told.width → told.width ≤ 64 → IsCompared more number) → MeetsAt old new number Compared before →
       AreMet wrapped variables old pairs → TakesMore wrapped variables told likeness old new pairs more
-  takes_one told likeness number old new before pairs more is like keeps compared meets met =
+  one_taken told likeness number old new before pairs more is like keeps compared meets met =
       let alike : IsLike wrapped variables told number = subst (λ (l : Likeness). IfSame l (IsLike wrapped variables told)) is like in
       let follows : IsFollowed wrapped variables more number = followed told number more alike compared in
       record {
@@ -121,6 +121,29 @@ module _ (wrapped : Bool) (variables : List Variable) where
         keeps = keeps;
         compared = λ place same lt. (let e : number ≡ place = cc in subst (IsFollowed wrapped variables more) e follows);
       }
+
+  -- the same where a call succeeds
+  pub takes_width : {T E : Type 0} (r : Result T E) (told : VcdVariable) (likeness : Likeness) (number : ℕ) (old new : List Meeting)
+      (before : Meeting) (pairs : List Pair) → likeness ≡ OtherWidth number → MeetsAt old new number WithOther before →
+      AreMet wrapped variables old pairs → OnOk r (TakesMore wrapped variables told likeness old new pairs pairs)
+  takes_width (Ok x) told likeness number old new before pairs is meets met = width_taken told likeness number old new before pairs is meets met
+  takes_width (Err e) told likeness number old new before pairs is meets met = tt
+
+  pub takes_repeated : {T E : Type 0} (r : Result T E) (told : VcdVariable) (likeness : Likeness) (number : ℕ) (old new : List Meeting)
+      (before : Meeting) (pairs : List Pair) → likeness ≡ Same number → MeetsAt old new number Compared before → before ≡ Compared →
+      AreMet wrapped variables old pairs → OnOk r (TakesMore wrapped variables told likeness old new pairs pairs)
+  takes_repeated (Ok x) told likeness number old new before pairs is meets was met =
+      repeated_taken told likeness number old new before pairs is meets was met
+  takes_repeated (Err e) told likeness number old new before pairs is meets was met = tt
+
+  pub takes_one : {T E : Type 0} (r : Result T E) (told : VcdVariable) (likeness : Likeness) (number : ℕ) (old new : List Meeting)
+      (before : Meeting) (pairs more : List Pair) → likeness ≡ Same number → IfSame likeness (IsLike wrapped variables told) →
+      OnOk r (KeepsCompared pairs more) → OnOk r (1 ≤ told.width → told.width ≤ 64 → IsCompared more number) →
+      MeetsAt old new number Compared before → AreMet wrapped variables old pairs →
+      OnOk r (TakesMore wrapped variables told likeness old new pairs more)
+  takes_one (Ok x) told likeness number old new before pairs more is like keeps compared meets met =
+      one_taken told likeness number old new before pairs more is like keeps compared meets met
+  takes_one (Err e) told likeness number old new before pairs more is like keeps compared meets met = tt
 
   -- with the next variable of the dump
   pub compared_next : (declared : List VcdVariable) (n : ℕ) (told : VcdVariable) (pairs more : List Pair) → slice_get declared n ≡ Some told →
@@ -150,10 +173,3 @@ all_at w w' vs vs' ds ds' pairs o a b are =
     subst (λ (wrapped : Bool). AreAllCompared wrapped vs' ds' pairs) o
     (subst (λ (v : List Variable). AreAllCompared w v ds' pairs) a
     (subst (λ (d : List VcdVariable). AreAllCompared w vs d pairs) b are))
-
--- ---- where a call succeeds
-
-pub ok_so : {T E P : Type 0} (r : Result T E) → P → OnOk r P
-ok_so (Ok x) p = p
-ok_so (Err e) p = tt
-
