@@ -1,26 +1,22 @@
-use Rattle.std.proofs.Common.{sym, subst}
+use Rattle.std.proofs.Common.{ℕ, List, sym, subst}
+use Rattle.basis.specs.Reasons.{Because}
+use Rattle.sched_core.specs.Replay.{IsReplayReason}
+use Rattle.vmodel.specs.Run.{rules_of}
+use Rattle.vreport.specs.Dumps.{EndsAs}
 use Rattle.vrace.specs.RunDumps.{IsRunFault}
-use Rattle.vrace.proofs.SeenLemmas.{has_end, seen_fault}
+use Rattle.vrace.proofs.DumpLemmas.{seeing_fault}
 use Rattle.vrace.proofs.replay.see_end.Goals as goal
-use Rattle.vrace.proofs.replay.see_end.Goals.{in-Ok, in-Err}
 
-pub returns-clause-ends : goal.returns-clause-ends
-returns-clause-ends c =
-    let law = c.machine_law.ensures in
-    let setting = c.args.machine.now in
-    elim c.match-replay.branch [
-      | in-Ok w ↦ rw w.result-is (has_end law.width law.runs law.stands setting c.args.log.now c.args.steps w.in-Ok.field-0.steps w.in-Ok.ensures.ends w.in-Ok.ensures.within)
-      | in-Err w ↦ rw w.result-is tt
-    ]
+pub see_end-requires : goal.see_end-requires
+see_end-requires c = record { here = c.in_ok-run.ensures.here c.args.steps }
 
-pub returns-clause-reason : goal.returns-clause-reason
-returns-clause-reason c =
-    let law = c.machine_law.ensures in
+pub returns-in-Ok-clause-ends : goal.returns-in-Ok-clause-ends
+returns-in-Ok-clause-ends c =
+    subst (λ (log : List (ℕ × ℕ)). EndsAs c.args.machine.now log c.args.steps c.in-Ok.end) c.in_ok-run.ensures.log c.in-Ok.ensures.ends
+
+pub returns-in-Err-clause-reason : goal.returns-in-Err-clause-reason
+returns-in-Err-clause-reason c =
     let setting = c.args.machine.now in
-    elim c.match-replay.branch [
-      | in-Ok w ↦ rw w.result-is tt
-      | in-Err w ↦ (
-          rw w.result-is
-          (subst (IsRunFault setting c.args.log.now c.args.steps) (sym w.of_seeing.ensures)
-          (seen_fault law.width law.runs law.stands setting c.args.log.now c.args.steps w.in-Err.fault w.in-Err.ensures.reason)))
-    ]
+    subst (IsRunFault setting c.args.log.now c.args.steps) (sym c.of_seeing.ensures)
+    (seeing_fault setting c.args.log.now c.args.steps c.in-Err.fault
+    (subst (λ (log : List (ℕ × ℕ)). Because (IsReplayReason (rules_of setting) log c.args.steps) c.in-Err.fault) c.in_ok-run.ensures.log c.in-Err.ensures.reason))
