@@ -1,5 +1,5 @@
 -- What stands written of a run's dump.
-use Rattle.std.proofs.Common.{◌≡◌, ℕ, List, Option, Result, Ok, Err, OnOk, IfErr, refl, sym, subst}
+use Rattle.std.proofs.Common.{◌≡◌, ℕ, List, Option, Result, Ok, Err, OnOk, IfOk, IfErr, refl, sym, subst}
 use Rattle.sched_core.specs.Replay.{IsReplayReason}
 use Rattle.sched_core.specs.declared.run.ReplayFault.{ReplayFault}
 use Rattle.sched_core.specs.declared.run.ReplayFault.TheVariants as replay
@@ -22,6 +22,10 @@ use Rattle.vrace.specs.declared.fault.Fault.{Fault}
 pub on_ok : {T E : Type 0} (r : Result T E) {P Q : Type 0} → (P → Q) → OnOk r P → OnOk r Q
 on_ok (Ok x) f p = f p
 on_ok (Err e) f p = tt
+
+pub if_ok : {T E : Type 0} (r : Result T E) {P Q : T → Type 0} → ((x : T) → P x → Q x) → IfOk r P → IfOk r Q
+if_ok (Ok x) f p = f x p
+if_ok (Err e) f p = tt
 
 pub if_err : {T E : Type 0} (r : Result T E) {P Q : E → Type 0} → ((e : E) → P e → Q e) → IfErr r P → IfErr r Q
 if_err (Ok x) f p = tt

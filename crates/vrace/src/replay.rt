@@ -282,11 +282,7 @@ fn print_on<W: Write>(
 }
 
 // Writes a text that is held, of a run with this end.
-fn write_whole<W: Write>(
-    text: &HeldText,
-    end: End,
-    writer: &mut Metered<W>,
-) -> Result<End, Fault>
+fn write_whole<W: Write>(text: &HeldText, end: End, writer: &mut Metered<W>) -> Result<End, Fault>
     ensures ok { OnOk result (Grows W.contents writer.old writer.new text.now) }
     ensures end { IfOk result (λ told. told ≡ end) }
     ensures err { IfErr result

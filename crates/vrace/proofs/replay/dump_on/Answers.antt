@@ -2,7 +2,7 @@ use Rattle.std.proofs.Common.{inl, inr, refl, sym, subst}
 use Rattle.vmodel.specs.Run.{history_after}
 use Rattle.vcd_text.specs.DumpText.{vcd}
 use Rattle.vrace.specs.RunDumps.{IsRunFault}
-use Rattle.vrace.proofs.DumpLemmas.{if_err, seeing_fault, the_dump}
+use Rattle.vrace.proofs.DumpLemmas.{seeing_fault, the_dump}
 use Rattle.vrace.proofs.replay.dump_on.Goals as goal
 
 pub write_run_from-requires : goal.write_run_from-requires
@@ -11,7 +11,7 @@ write_run_from-requires g c =
     let known = c.in-Ok.ensures.ends in
     record {
       front = c.requires.front;
-      ends = (vcd c.args.machine.now.design (history_after c.args.machine.now log known.0), the_dump c.args.machine.now log c.args.steps known.0 c.in-Ok.field-0 known.1);
+      ends = (vcd c.args.machine.now.design (history_after c.args.machine.now log known.0), the_dump c.args.machine.now log c.args.steps known.0 c.in-Ok.end known.1);
     }
 
 pub returns-in-Err-clause-err : goal.returns-in-Err-clause-err
@@ -22,5 +22,5 @@ returns-in-Err-clause-err g c =
       refl,
     )
 
-pub returns-clause-err : goal.returns-clause-err
-returns-clause-err g c = if_err c.write_run_from.result (λ fault stops. inr stops) c.write_run_from.ensures.err
+pub returns-in-Err-write_run_from-clause-err : goal.returns-in-Err-write_run_from-clause-err
+returns-in-Err-write_run_from-clause-err g c = inr c.in-Err-write_run_from.ensures.err

@@ -1,10 +1,10 @@
 use Rattle.std.proofs.Common.{inl, inr, refl, sym, subst}
 use Rattle.vrace.specs.RunDumps.{IsRunFault}
-use Rattle.vrace.proofs.DumpLemmas.{if_err, seeing_fault}
+use Rattle.vrace.proofs.DumpLemmas.{seeing_fault}
 use Rattle.vrace.proofs.replay.print_on.Goals as goal
 
 pub write_run_lines_from-requires : goal.write_run_lines_from-requires
-write_run_lines_from-requires g c = record { front = c.requires.front; ends = (c.in-Ok.ensures.ends.0, c.in-Ok.field-0, c.in-Ok.ensures.ends.1) }
+write_run_lines_from-requires g c = record { front = c.requires.front; ends = (c.in-Ok.ensures.ends.0, c.in-Ok.end, c.in-Ok.ensures.ends.1) }
 
 pub returns-in-Err-clause-err : goal.returns-in-Err-clause-err
 returns-in-Err-clause-err g c =
@@ -14,5 +14,5 @@ returns-in-Err-clause-err g c =
       refl,
     )
 
-pub returns-clause-err : goal.returns-clause-err
-returns-clause-err g c = if_err c.write_run_lines_from.result (λ fault stops. inr stops) c.write_run_lines_from.ensures.err
+pub returns-in-Err-write_run_lines_from-clause-err : goal.returns-in-Err-write_run_lines_from-clause-err
+returns-in-Err-write_run_lines_from-clause-err g c = inr c.in-Err-write_run_lines_from.ensures.err

@@ -1,9 +1,12 @@
-use Rattle.std.proofs.Common.{IfErr, subst}
+use Rattle.std.proofs.Common.{IfErr, IfOk, subst, sym}
 use Rattle.std.proofs.lemmas.Result.{err_from_is_err_and}
 use Rattle.vsrc.specs.Source.{file_bytes}
 use Rattle.vrace.specs.Request.{request_of}
+use Rattle.vmodel.specs.Run.{Setting}
+use Rattle.sched_core.specs.declared.end.End.{End}
+use Rattle.vreport.specs.Dumps.{EndsAs}
 use Rattle.vrace.specs.RunDumps.{Ends, IsRunShown}
-use Rattle.vrace.proofs.DumpLemmas.{on_ok, if_err}
+use Rattle.vrace.proofs.DumpLemmas.{on_ok, if_err, if_ok}
 use Rattle.vrace.proofs.ReplayLemmas.{shown_so, reason, left, failures_told}
 use Rattle.vrace.proofs.replay.replay_text.Goals as goal
 
@@ -53,3 +56,15 @@ returns-clause-failures g c =
     (failures_told g.W.Write.contents (IsRunShown c.args.show machine members c.args.options.now.limits.steps) machine members c.args.options.now.limits.steps
     c.args.writer.now c.show_run.new.writer)
     c.show_run.ensures.err
+
+pub returns-clause-ends : goal.returns-clause-ends
+returns-clause-ends g c =
+    let machine = c.in_ok-input.input.machine in
+    let (replayed, same, members) = c.in_ok-input.ensures.ok in
+    let steps = c.args.options.now.limits.steps in
+    if_ok c.show_run.result
+    (λ end ends. record {
+      replayed = replayed;
+      ends = subst (λ (setting : Setting). EndsAs setting replayed.members steps end) same (subst (λ log. EndsAs machine log steps end) members ends);
+    })
+    c.show_run.ensures.ends

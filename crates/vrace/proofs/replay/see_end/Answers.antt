@@ -14,8 +14,8 @@ pub returns-in-Ok-clause-ends : goal.returns-in-Ok-clause-ends
 returns-in-Ok-clause-ends c =
     subst (λ (log : List (ℕ × ℕ)). EndsAs c.args.machine.now log c.args.steps c.in-Ok.end) c.in_ok-run.ensures.log c.in-Ok.ensures.ends
 
-pub returns-in-Err-clause-reason : goal.returns-in-Err-clause-reason
-returns-in-Err-clause-reason c =
+pub returns-clause-reason : goal.returns-clause-reason
+returns-clause-reason c =
     let setting = c.args.machine.now in
     subst (IsRunFault setting c.args.log.now c.args.steps) (sym c.of_seeing.ensures)
     (seeing_fault setting c.args.log.now c.args.steps c.in-Err.fault

@@ -1,26 +1,27 @@
 use Rattle.std.proofs.Common.{ℕ, List, Option, OnOk, IfErr, inl, inr, refl, subst, sym}
-use Rattle.std.specs.Prelude.{IfSome}
+use Rattle.std.specs.Prelude.{IfOk, IfSome}
 use Rattle.byte_sinks.specs.Metered.{Grows}
+use Rattle.vreport.specs.Dumps.{EndsAs}
 use Rattle.vrace.specs.RunLines.{IsHeldLines, IsRunLines}
 use Rattle.vrace.specs.declared.lines.HeldLines.{HeldLines}
 use Rattle.vrace.specs.RunDumps.{Ends, IsRunFault}
-use Rattle.vrace.proofs.DumpLemmas.{if_err, on_ok, run_fault, stops_with}
+use Rattle.vrace.proofs.DumpLemmas.{if_err, if_ok, on_ok, run_fault, stops_with}
 use Rattle.vrace.proofs.LinesFrontLemmas.{own_front}
 use Rattle.vrace.proofs.replay.show_lines.Goals as goal
 
 pub returns-in-Ok-Some-Whole-clause-ok : goal.returns-in-Ok-Some-Whole-clause-ok
 returns-in-Ok-Some-Whole-clause-ok g c =
     let held = subst (λ (held : Option HeldLines). IfSome held (IsHeldLines c.args.machine.now c.args.log.now c.args.steps)) c.in-Ok-Some-Whole.field-0-is c.in-Ok-Some-Whole.ensures.held in
-    let shown : IsRunLines c.args.machine.now c.args.log.now c.args.steps c.in-Ok-Some-Whole.text = subst (IsHeldLines c.args.machine.now c.args.log.now c.args.steps) c.in-Ok-Some-Whole.field-0-0-is held in
-    on_ok c.write_held.result (λ grown. (c.in-Ok-Some-Whole.text, shown, grown)) c.write_held.ensures.ok
+    let shown : IsRunLines c.args.machine.now c.args.log.now c.args.steps c.in-Ok-Some-Whole.text = (subst (IsHeldLines c.args.machine.now c.args.log.now c.args.steps) c.in-Ok-Some-Whole.field-0-0-is held).0 in
+    on_ok c.write_whole.result (λ grown. (c.in-Ok-Some-Whole.text, shown, grown)) c.write_whole.ensures.ok
 
 pub returns-in-Ok-Some-Whole-clause-err : goal.returns-in-Ok-Some-Whole-clause-err
 returns-in-Ok-Some-Whole-clause-err g c =
     let held = subst (λ (held : Option HeldLines). IfSome held (IsHeldLines c.args.machine.now c.args.log.now c.args.steps)) c.in-Ok-Some-Whole.field-0-is c.in-Ok-Some-Whole.ensures.held in
-    let shown : IsRunLines c.args.machine.now c.args.log.now c.args.steps c.in-Ok-Some-Whole.text = subst (IsHeldLines c.args.machine.now c.args.log.now c.args.steps) c.in-Ok-Some-Whole.field-0-0-is held in
-    if_err c.write_held.result
-    (λ fault stops. inr (stops_with g.W.Write.contents (IsRunLines c.args.machine.now c.args.log.now c.args.steps) c.in-Ok-Some-Whole.text c.args.writer.now c.write_held.new.writer fault shown stops))
-    c.write_held.ensures.err
+    let shown : IsRunLines c.args.machine.now c.args.log.now c.args.steps c.in-Ok-Some-Whole.text = (subst (IsHeldLines c.args.machine.now c.args.log.now c.args.steps) c.in-Ok-Some-Whole.field-0-0-is held).0 in
+    if_err c.write_whole.result
+    (λ fault stops. inr (stops_with g.W.Write.contents (IsRunLines c.args.machine.now c.args.log.now c.args.steps) c.in-Ok-Some-Whole.text c.args.writer.now c.write_whole.new.writer fault shown stops))
+    c.write_whole.ensures.err
 
 pub print_on-requires : goal.print_on-requires
 print_on-requires g c =
@@ -51,3 +52,15 @@ returns-in-Err-clause-err g c =
           (run_fault c.args.machine.now c.args.log.now c.args.steps c.in-Err.fault c.in-Err.ensures.reason),
       refl,
     )
+
+pub returns-in-Ok-Some-Whole-clause-ends : goal.returns-in-Ok-Some-Whole-clause-ends
+returns-in-Ok-Some-Whole-clause-ends g c =
+    let held = subst (λ (held : Option HeldLines). IfSome held (IsHeldLines c.args.machine.now c.args.log.now c.args.steps)) c.in-Ok-Some-Whole.field-0-is c.in-Ok-Some-Whole.ensures.held in
+    let whole = subst (IsHeldLines c.args.machine.now c.args.log.now c.args.steps) c.in-Ok-Some-Whole.field-0-0-is held in
+    if_ok c.write_whole.result (λ told is. subst (EndsAs c.args.machine.now c.args.log.now c.args.steps) (sym is) whole.1) c.write_whole.ensures.end
+
+pub returns-in-Ok-Some-Front-clause-ends : goal.returns-in-Ok-Some-Front-clause-ends
+returns-in-Ok-Some-Front-clause-ends g c =
+    let held = subst (λ (held : Option HeldLines). IfSome held (IsHeldLines c.args.machine.now c.args.log.now c.args.steps)) c.in-Ok-Some-Front.field-0-is c.in-Ok-Some-Front.ensures.held in
+    let front = subst (IsHeldLines c.args.machine.now c.args.log.now c.args.steps) c.in-Ok-Some-Front.field-0-0-is held in
+    subst (λ (log : List (ℕ × ℕ)). IfOk c.print_on.result (EndsAs c.args.machine.now log c.args.steps)) front.log_is c.print_on.ensures.ends

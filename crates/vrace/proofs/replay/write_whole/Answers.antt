@@ -1,5 +1,5 @@
 use Rattle.byte_sinks.specs.MeteredLaws.{stops_of}
-use Rattle.vrace.proofs.replay.write_held.Goals as goal
+use Rattle.vrace.proofs.replay.write_whole.Goals as goal
 
 pub returns-in-Err-clause-err : goal.returns-in-Err-clause-err
 returns-in-Err-clause-err g c = record {
