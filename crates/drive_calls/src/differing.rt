@@ -12,7 +12,7 @@ const LETTERS: usize = 200;
 
 // What may be behind a difference.
 const REASON: &[u8] =
-    b": the simulator took a race the other way there, or a parameter has another value (--param)";
+    b": the simulator took a race the other way there (--async NAME writes an input by =), or a parameter has another value (--param)";
 
 /// What is compared: the dump, the scope in it, the testbench's module and the instance in it; an input that is posted at time 0, the first time
 /// that is compared, and whether all inputs are known from the dump's beginning on; how many of the units that are shown make one of the precision; and the limits.
@@ -196,7 +196,7 @@ impl Told<'_> {
     }
 }
 
-// That a dump of this unit isn't compared with files in nanoseconds.
+// That a dump of this unit isn't compared with files that say in no unit they count.
 fn put_unit(text: &mut Vec<u8>, unit: Span) -> Result<(), NoMemory> {
     put_all(
         text,
@@ -204,9 +204,7 @@ fn put_unit(text: &mut Vec<u8>, unit: Span) -> Result<(), NoMemory> {
             Piece::Bytes(b": its unit is "),
             Piece::Number(u64::from(unit.count.number())),
             Piece::Bytes(unit.unit.name().as_bytes()),
-            Piece::Bytes(
-                b", and the times of files of `timescale 1ns/1ns are compared in theirs\n",
-            ),
+            Piece::Bytes(b", and the times of files without a timescale are compared in theirs\n"),
         ],
     )
 }
